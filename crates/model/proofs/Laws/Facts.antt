@@ -1,0 +1,229 @@
+-- Soundness as facts by membership, and that the test says just these.
+use mathlib.Core.Path.{_≡_, refl, sym}
+use mathlib.Core.Bool.{Bool, Bool·beq, _&&_, false, not, true}
+use mathlib.Core.List.{List, List·Memᴰ, Memᴰ·cast}
+use mathlib.Core.Logic.{_⊎_, inl, inr}
+use Prim.Native.Nat.{_<_, _≤_, ℕ}
+use native.Mathlib.Omega.{arith}
+use native.Mathlib.Decide.{decLt}
+use native.Mathlib.Nat.{zero-add}
+use lib.Dec.{eqb}
+use lib.ListN.{List·getD-eq-default, getD, length}
+use borrow.Author.Tests.{eq-eqb, eqb-true, le-leb, leb-true, lt-ltb, ltb-true}
+use Rattle.model.specs.declared.Binding.{Binding}
+use Rattle.model.specs.declared.Declaration.{Declaration}
+use Rattle.model.specs.declared.Link.{Link}
+use Rattle.model.specs.declared.Node.{Node}
+use Rattle.model.specs.declared.Port.{Port}
+use Rattle.model.proofs.Laws.Booleans.{Each, and-i, and-l, and-r, cases, clash, each, f-not, imp-e, imp-i, not-t, of-each}
+use Rattle.model.proofs.Laws.Lists.{all-in, allAt-at, any-in, at-allAt, in-all, in-any}
+use Rattle.model.specs.Lists.{all, allAt, any, conj}
+use Rattle.model.specs.Records.{blankNode, consistencyTests, dependency, isConsistent, isInactive, isUnloading, portOf, provision, samePort}
+use Rattle.model.specs.Samples.{port}
+use Rattle.model.specs.Sizes.{Sizes}
+use Rattle.model.specs.Soundness.{coverage, declares, fits, hasOwner, isCovered, isDeclaration, linkOk, linkTests, linksTo, needTests, nodeOk, ordered, parentOk, rivalTests, safetyTests, safetyWf, sameOwner, sizeTests, sound, wf}
+use Rattle.model.specs.Tables.{Tables, installed, nodeAt, notInactive, present, serving}
+
+pub record NodeOk (ns : List Node) (i : ℕ) (n : Node) : Type 0 where
+  pub absent-inactive : n .present ≡ false → isInactive (n .phase) ≡ true
+  pub absent-kept : n .present ≡ false → n .restoring ≡ false
+  pub restoring-present : n .restoring ≡ true → n .present ≡ true
+  pub restoring-unloading : n .restoring ≡ true → isUnloading (n .phase) ≡ true
+  pub parent-ok : n .present ≡ true → parentOk ns i (n .parent) ≡ true
+
+pub record LiveOk (ns : List Node) (ds : List Declaration) (c : ℕ) (b : Binding) : Type 0 where
+  pub consumer-present : present ns c ≡ true
+  pub consumer-installed : notInactive ns c ≡ true
+  pub provider-present : present ns (b .provider) ≡ true
+  pub provider-installed : notInactive ns (b .provider) ≡ true
+  pub provider-kept : (nodeAt ns (b .provider)) .restoring ≡ false
+  pub needed : List·Memᴰ (dependency c (portOf b)) ds
+  pub offered : List·Memᴰ (provision (b .provider) (portOf b)) ds
+
+abbrev pub Unique : List Node → List Declaration → Type 0
+Unique ns ds = (d e : Declaration) → List·Memᴰ d ds → List·Memᴰ e ds → d .provides ≡ true → e .provides ≡ true → present ns (d .owner) ≡ true → present ns (e .owner) ≡ true → d .port ≡ e .port → d .owner ≡ e .owner
+
+-- lengths within the sizes
+pub record Fits (S : Sizes) (T : Tables) : Type 0 where
+  pub nodes : length (T .nodes) ≤ S .identities
+  pub declarations : length (T .declarations) ≤ S .declarations
+  pub links : length (T .links) ≤ S .links
+
+-- the points without the last
+pub record Safe (T : Tables) : Type 0 where
+  pub owners : (d : Declaration) → List·Memᴰ d (T .declarations) → d .owner < length (T .nodes)
+  pub unique : Unique (T .nodes) (T .declarations)
+  pub nodes : (i : ℕ) → NodeOk (T .nodes) i (nodeAt (T .nodes) i)
+  pub live : (l : Link) → List·Memᴰ l (T .links) → l .live ≡ true → LiveOk (T .nodes) (T .declarations) (l .consumer) (l .binding)
+  pub order : ordered (T .links) ≡ true
+
+pub record Linked (ls : List Link) (o : ℕ) (p : Port) : Type 0 where
+  pub link : Link
+  pub among : List·Memᴰ link ls
+  pub is-live : link .live ≡ true
+  pub of-consumer : link .consumer ≡ o
+  pub of-port : portOf (link .binding) ≡ p
+
+abbrev pub Covered : Tables → Type 0
+Covered T = (d : Declaration) → List·Memᴰ d (T .declarations) → d .provides ≡ false → present (T .nodes) (d .owner) ≡ true → notInactive (T .nodes) (d .owner) ≡ true → Linked (T .links) (d .owner) (d .port)
+
+pub record Sound (S : Sizes) (T : Tables) : Type 0 where
+  pub sizes : Fits S T
+  pub safe : Safe T
+  pub covered : Covered T
+
+-- ---- equality tests
+
+pub same-port : (p q : Port) → samePort p q ≡ true → p ≡ q
+same-port p q h =
+    let a : p .key ≡ q .key = eqb-true (p .key) (q .key) (and-l (eqb (p .key) (q .key)) (eqb (p .realm) (q .realm)) h) in
+    let b : p .realm ≡ q .realm = eqb-true (p .realm) (q .realm) (and-r (eqb (p .key) (q .key)) (eqb (p .realm) (q .realm)) h) in
+    λ i. record { key = a i; realm = b i }
+
+pub port-same : (p : Port) → samePort p p ≡ true
+port-same p = and-i (eqb (p .key) (p .key)) (eqb (p .realm) (p .realm)) (eq-eqb (p .key) (p .key) refl) (eq-eqb (p .realm) (p .realm) refl)
+
+beq-true : (a b : Bool) → Bool·beq a b ≡ true → a ≡ b
+beq-true true true h = refl
+beq-true true false h = sym h
+beq-true false true h = h
+beq-true false false h = refl
+
+beq-refl : (a : Bool) → Bool·beq a a ≡ true
+beq-refl true = refl
+beq-refl false = refl
+
+pub is-declaration : (o : ℕ) (p : Port) (b : Bool) (d : Declaration) → isDeclaration o p b d ≡ true → record { owner = o; port = p; provides = b } ≡ d
+unfolding isDeclaration
+is-declaration o p b d h =
+    let h1 : eqb (d .owner) o && samePort (d .port) p ≡ true = and-l (eqb (d .owner) o && samePort (d .port) p) (Bool·beq (d .provides) b) h in
+    let x : d .owner ≡ o = eqb-true (d .owner) o (and-l (eqb (d .owner) o) (samePort (d .port) p) h1) in
+    let y : d .port ≡ p = same-port (d .port) p (and-r (eqb (d .owner) o) (samePort (d .port) p) h1) in
+    let z : d .provides ≡ b = beq-true (d .provides) b (and-r (eqb (d .owner) o && samePort (d .port) p) (Bool·beq (d .provides) b) h) in
+    sym (λ i. record { owner = x i; port = y i; provides = z i })
+
+pub declaration-is : (o : ℕ) (p : Port) (b : Bool) → isDeclaration o p b (record { owner = o; port = p; provides = b }) ≡ true
+unfolding isDeclaration
+declaration-is o p b = rw (eq-eqb o o refl, port-same p, beq-refl b)
+
+pub declares-in : (ds : List Declaration) (o : ℕ) (p : Port) (b : Bool) → declares ds o p b ≡ true → List·Memᴰ (record { owner = o; port = p; provides = b }) ds
+declares-in ds o p b h = let (d, m, q) = any-in (isDeclaration o p b) ds h in Memᴰ·cast (is-declaration o p b d q) m
+
+pub in-declares : (ds : List Declaration) (o : ℕ) (p : Port) (b : Bool) → List·Memᴰ (record { owner = o; port = p; provides = b }) ds → declares ds o p b ≡ true
+in-declares ds o p b m = in-any (isDeclaration o p b) m (declaration-is o p b)
+
+-- ---- the parts of the test
+
+pub node-of : (ns : List Node) (i : ℕ) (n : Node) → nodeOk ns i n ≡ true → NodeOk ns i n
+unfolding nodeOk
+node-of ns i n h =
+    let e : Each (consistencyTests n) = each (consistencyTests n) (and-l (isConsistent n) _ h) in
+    record {
+      absent-inactive = λ a. imp-e (not (n .present)) (isInactive (n .phase)) (e .0) (f-not (n .present) a);
+      absent-kept = λ a. not-t (n .restoring) (imp-e (not (n .present)) (not (n .restoring)) (e .1 .0) (f-not (n .present) a));
+      restoring-present = imp-e (n .restoring) (n .present) (e .1 .1 .0);
+      restoring-unloading = imp-e (n .restoring) (isUnloading (n .phase)) (e .1 .1 .1 .0);
+      parent-ok = imp-e (n .present) (parentOk ns i (n .parent)) (and-r (isConsistent n) _ h);
+    }
+
+pub of-node : (ns : List Node) (i : ℕ) (n : Node) → NodeOk ns i n → nodeOk ns i n ≡ true
+unfolding nodeOk
+of-node ns i n k =
+    and-i (isConsistent n) _
+    (of-each (consistencyTests n) (imp-i (not (n .present)) (isInactive (n .phase)) (λ a. k .absent-inactive (not-t (n .present) a)), (imp-i (not (n .present)) (not (n .restoring)) (λ a. f-not (n .restoring) (k .absent-kept (not-t (n .present) a))), (imp-i (n .restoring) (n .present) (k .restoring-present), (imp-i (n .restoring) (isUnloading (n .phase)) (k .restoring-unloading), tt)))))
+    (imp-i (n .present) (parentOk ns i (n .parent)) (k .parent-ok))
+
+pub live-of : (ns : List Node) (ds : List Declaration) (l : Link) → linkOk (installed ns) (serving ns) ds l ≡ true → l .live ≡ true → LiveOk ns ds (l .consumer) (l .binding)
+unfolding linkOk
+live-of ns ds l h v =
+    let e : Each (linkTests (installed ns) (serving ns) ds l) = each (linkTests (installed ns) (serving ns) ds l) (imp-e (l .live) _ h v) in
+    let i : installed ns (l .binding .provider) ≡ true = and-l (installed ns (l .binding .provider)) _ (e .1 .0) in
+    record {
+      consumer-present = and-l (present ns (l .consumer)) _ (e .0);
+      consumer-installed = and-r (present ns (l .consumer)) _ (e .0);
+      provider-present = and-l (present ns (l .binding .provider)) _ i;
+      provider-installed = and-r (present ns (l .binding .provider)) _ i;
+      provider-kept = not-t _ (and-r (installed ns (l .binding .provider)) _ (e .1 .0));
+      needed = declares-in ds _ _ _ (e .1 .1 .0);
+      offered = declares-in ds _ _ _ (e .1 .1 .1 .0);
+    }
+
+pub of-live : (ns : List Node) (ds : List Declaration) (l : Link) → (l .live ≡ true → LiveOk ns ds (l .consumer) (l .binding)) → linkOk (installed ns) (serving ns) ds l ≡ true
+unfolding linkOk
+of-live ns ds l f = imp-i (l .live) _ (λ v.
+    let k : LiveOk ns ds (l .consumer) (l .binding) = f v in
+    of-each (linkTests (installed ns) (serving ns) ds l) (and-i (present ns (l .consumer)) _ (k .consumer-present) (k .consumer-installed), (and-i (installed ns (l .binding .provider)) _ (and-i (present ns (l .binding .provider)) _ (k .provider-present) (k .provider-installed)) (f-not _ (k .provider-kept)), (in-declares ds _ _ _ (k .needed), (in-declares ds _ _ _ (k .offered), tt)))))
+
+pub linked-of : (ls : List Link) (o : ℕ) (p : Port) → any (linksTo o p) ls ≡ true → Linked ls o p
+unfolding linksTo
+linked-of ls o p h =
+    let (l, m, q) = any-in (linksTo o p) ls h in
+    let q1 : l .live && eqb (l .consumer) o ≡ true = and-l _ (samePort (portOf (l .binding)) p) q in
+    record { link = l; among = m; is-live = and-l (l .live) (eqb (l .consumer) o) q1; of-consumer = eqb-true _ _ (and-r (l .live) (eqb (l .consumer) o) q1); of-port = same-port _ _ (and-r (l .live && eqb (l .consumer) o) _ q) }
+
+pub of-linked : (ls : List Link) (o : ℕ) (p : Port) → Linked ls o p → any (linksTo o p) ls ≡ true
+unfolding linksTo
+of-linked ls o p k = in-any (linksTo o p) (k .among) (rw (k .is-live, k .of-consumer, k .of-port, eq-eqb o o refl, port-same p))
+
+pub blank-ok : (ns : List Node) (i : ℕ) → NodeOk ns i blankNode
+blank-ok ns i = record { absent-inactive = λ a. refl; absent-kept = λ a. refl; restoring-present = λ a. a; restoring-unloading = λ a. clash false a refl; parent-ok = λ a. clash false a refl }
+
+pub nodes-of : (ns : List Node) → allAt (nodeOk ns) 0 ns ≡ true → (i : ℕ) → NodeOk ns i (nodeAt ns i)
+unfolding nodeAt
+nodes-of ns h i = go (decLt i (length ns))
+  where
+    go : Dec (i < length ns) → NodeOk ns i (getD ns i blankNode)
+    go (yes l) = node-of ns i (getD ns i blankNode) (rw (zero-add i) at (allAt-at (nodeOk ns) 0 ns h i blankNode l))
+    go (no l) = rw (List·getD-eq-default ns blankNode {n = i} (omega arith)) (blank-ok ns i)
+
+-- ---- the test as a whole
+
+pub covered-of : (T : Tables) → coverage T ≡ true → Covered T
+unfolding coverage isCovered
+covered-of T h d m p a b = linked-of (T .links) (d .owner) (d .port) (imp-e (conj (needTests (installed (T .nodes)) d)) _ (all-in (isCovered (installed (T .nodes)) (T .links)) m h) (of-each (needTests (installed (T .nodes)) d) (f-not _ p, (and-i (present (T .nodes) (d .owner)) _ a b, tt))))
+
+pub of-covered : (T : Tables) → Covered T → coverage T ≡ true
+unfolding coverage isCovered
+of-covered T k = in-all _ (T .declarations) (λ d m. imp-i (conj (needTests (installed (T .nodes)) d)) _ (λ h. let e : Each (needTests (installed (T .nodes)) d) = each (needTests (installed (T .nodes)) d) h in of-linked _ _ _ (k d m (not-t _ (e .0)) (and-l (present (T .nodes) (d .owner)) _ (e .1 .0)) (and-r (present (T .nodes) (d .owner)) _ (e .1 .0)))))
+
+pub safe-of : (T : Tables) → safetyWf T ≡ true → Safe T
+unfolding safetyWf hasOwner sameOwner
+safe-of T h =
+    let e : Each (safetyTests T) = each (safetyTests T) h in
+    record {
+      owners = λ d m. ltb-true _ _ (all-in (hasOwner (T .nodes)) m (e .0));
+      unique = λ d f m k p q a b r. eqb-true (d .owner) (f .owner) (imp-e (conj (rivalTests (present (T .nodes)) d f)) _ (all-in (sameOwner (present (T .nodes)) d) k (all-in (λ d. all (sameOwner (present (T .nodes)) d) (T .declarations)) m (e .1 .0))) (of-each (rivalTests (present (T .nodes)) d f) (p, (q, (a, (b, (rw r (port-same (f .port)), tt)))))));
+      nodes = nodes-of (T .nodes) (e .1 .1 .0);
+      live = λ l m v. live-of (T .nodes) (T .declarations) l (all-in (linkOk (installed (T .nodes)) (serving (T .nodes)) (T .declarations)) m (e .1 .1 .1 .0)) v;
+      order = e .1 .1 .1 .1 .0;
+    }
+
+pub of-safe : (T : Tables) → Safe T → safetyWf T ≡ true
+unfolding safetyWf hasOwner sameOwner
+of-safe T k = of-each (safetyTests T) (in-all _ (T .declarations) (λ d m. lt-ltb _ _ (k .owners d m)), (in-all _ (T .declarations) (λ d m. in-all (sameOwner (present (T .nodes)) d) (T .declarations) (λ f n. imp-i (conj (rivalTests (present (T .nodes)) d f)) _ (λ h. let e : Each (rivalTests (present (T .nodes)) d f) = each (rivalTests (present (T .nodes)) d f) h in eq-eqb _ _ (k .unique d f m n (e .0) (e .1 .0) (e .1 .1 .0) (e .1 .1 .1 .0) (same-port _ _ (e .1 .1 .1 .1 .0)))))), (at-allAt (nodeOk (T .nodes)) 0 (T .nodes) blankNode (λ i l. rw (zero-add i) (of-node (T .nodes) i _ (unfold nodeAt in k .nodes i))), (in-all _ (T .links) (λ l m. of-live (T .nodes) (T .declarations) l (k .live l m)), (k .order, tt)))))
+
+pub fits-of : (S : Sizes) (T : Tables) → fits S T ≡ true → Fits S T
+unfolding fits
+fits-of S T h = let e : Each (sizeTests S T) = each (sizeTests S T) h in record { nodes = leb-true _ _ (e .0); declarations = leb-true _ _ (e .1 .0); links = leb-true _ _ (e .1 .1 .0) }
+
+pub of-fits : (S : Sizes) (T : Tables) → Fits S T → fits S T ≡ true
+unfolding fits
+of-fits S T k = of-each (sizeTests S T) (le-leb _ _ (k .nodes), (le-leb _ _ (k .declarations), (le-leb _ _ (k .links), tt)))
+
+pub facts : (S : Sizes) (T : Tables) → sound S T ≡ true → Sound S T
+unfolding sound wf
+facts S T h =
+    let w : wf T ≡ true = and-r (fits S T) _ h in
+    record { sizes = fits-of S T (and-l (fits S T) _ h); safe = safe-of T (and-l (safetyWf T) _ w); covered = covered-of T (and-r (safetyWf T) _ w) }
+
+pub of-facts : (S : Sizes) (T : Tables) → Sound S T → sound S T ≡ true
+unfolding sound wf
+of-facts S T k = and-i (fits S T) _ (of-fits S T (k .sizes)) (and-i (safetyWf T) _ (of-safe T (k .safe)) (of-covered T (k .covered)))
+
+-- a node that is not Unloading is not restoring
+pub not-restoring : (ns : List Node) (i : ℕ) (n : Node) → NodeOk ns i n → isUnloading (n .phase) ≡ false → n .restoring ≡ false
+not-restoring ns i n k h = go (cases (n .restoring))
+  where
+    go : (n .restoring ≡ true) ⊎ (n .restoring ≡ false) → n .restoring ≡ false
+    go (inl r) = clash _ (k .restoring-unloading r) h
+    go (inr r) = r

@@ -1,0 +1,170 @@
+-- What the tests on lists say, by membership and by place.
+use mathlib.Core.Path.{_≡_, ap, refl, sym}
+use mathlib.Core.Bool.{Bool, _||_, cond, false, true, true≢false}
+use mathlib.Core.List.{List, List·Memᴰ, List·Memᴰ·head, List·Memᴰ·not-nil, List·Memᴰ·tail, [], _++_, _∷_, map}
+use mathlib.Core.Option.{Option, none, some}
+use Prim.Native.Nat.{_+_, _<_, _≤_, suc, zero, ℕ}
+use native.Mathlib.Omega.{arith}
+use native.Mathlib.Nat.{add-zero}
+use lib.ListN.{getD, length}
+use Rattle.model.proofs.Laws.Booleans.{and-i, and-l, and-r, clash, or-f-l, or-f-r}
+use Rattle.model.specs.Lists.{all, allAt, any, isNone, keep, onward}
+use Rattle.model.specs.Points.{Among, At}
+
+-- ---- membership
+
+module _ {A : Type 0} where
+  pub all-in : (p : A → Bool) {xs : List A} {x : A} → List·Memᴰ x xs → all p xs ≡ true → p x ≡ true
+  unfolding all
+  all-in p (List·Memᴰ·head {x = y} {xs = ys} e) h = rw e (and-l (p y) (all p ys) h)
+  all-in p (List·Memᴰ·tail {x = y} {xs = ys} m) h = all-in p m (and-r (p y) (all p ys) h)
+
+  pub in-all : (p : A → Bool) (xs : List A) → ((x : A) → List·Memᴰ x xs → p x ≡ true) → all p xs ≡ true
+  unfolding all
+  in-all p [] f = refl
+  in-all p (x ∷ xs) f = and-i (p x) (all p xs) (f x (List·Memᴰ·head refl)) (in-all p xs (λ y m. f y (List·Memᴰ·tail m)))
+
+  pub any-in : (p : A → Bool) (xs : List A) → any p xs ≡ true → (x : A) × List·Memᴰ x xs × (p x ≡ true)
+  unfolding any
+  any-in p [] h = absurd (true≢false (sym h))
+  any-in p (x ∷ xs) h = go (p x) refl (λ e. any-in p xs e)
+    where
+      go : (b : Bool) → p x ≡ b → (any p xs ≡ true → (y : A) × List·Memᴰ y xs × (p y ≡ true)) → (y : A) × List·Memᴰ y (x ∷ xs) × (p y ≡ true)
+      go true e f = (x, List·Memᴰ·head refl, e)
+      go false e f = let (y, m, q) = f (rw e at h) in (y, List·Memᴰ·tail m, q)
+
+  pub in-any : (p : A → Bool) {xs : List A} {x : A} → List·Memᴰ x xs → p x ≡ true → any p xs ≡ true
+  unfolding any
+  in-any p (List·Memᴰ·head {x = y} {xs = ys} e) h = rw (← e, h)
+  in-any p (List·Memᴰ·tail {x = y} {xs = ys} m) h = rw (in-any p m h) (or-t (p y))
+    where
+      or-t : (b : Bool) → b || true ≡ true
+      or-t true = refl
+      or-t false = refl
+
+  pub none-in : (p : A → Bool) {xs : List A} {x : A} → List·Memᴰ x xs → any p xs ≡ false → p x ≡ false
+  unfolding any
+  none-in p (List·Memᴰ·head {x = y} {xs = ys} e) h = rw e (or-f-l (p y) (any p ys) h)
+  none-in p (List·Memᴰ·tail {x = y} {xs = ys} m) h = none-in p m (or-f-r (p y) (any p ys) h)
+
+  pub in-keep : (p : A → Bool) (xs : List A) {x : A} → List·Memᴰ x (keep p xs) → List·Memᴰ x xs × (p x ≡ true)
+  unfolding keep
+  in-keep p [] m = absurd (List·Memᴰ·not-nil m)
+  in-keep p (y ∷ ys) {x} m = go (p y) refl (λ n. in-keep p ys n) m
+    where
+      go : (b : Bool) → p y ≡ b → (List·Memᴰ x (keep p ys) → List·Memᴰ x ys × (p x ≡ true)) → List·Memᴰ x (cond b (y ∷ keep p ys) (keep p ys)) → List·Memᴰ x (y ∷ ys) × (p x ≡ true)
+      go true q f (List·Memᴰ·head e) = (List·Memᴰ·head e, rw (e, q))
+      go true q f (List·Memᴰ·tail n) = let (k, r) = f n in (List·Memᴰ·tail k, r)
+      go false q f n = let (k, r) = f n in (List·Memᴰ·tail k, r)
+
+  pub keep-in : (p : A → Bool) {xs : List A} {x : A} → List·Memᴰ x xs → p x ≡ true → List·Memᴰ x (keep p xs)
+  unfolding keep
+  keep-in p {x = z} (List·Memᴰ·head {x = y} {xs = ys} e) h = rw (← e, h) (List·Memᴰ·head refl)
+  keep-in p {x = z} (List·Memᴰ·tail {x = y} {xs = ys} m) h = go (p y) (keep-in p m h)
+    where
+      go : (b : Bool) → List·Memᴰ z (keep p ys) → List·Memᴰ z (cond b (y ∷ keep p ys) (keep p ys))
+      go true n = List·Memᴰ·tail n
+      go false n = n
+
+  pub length-keep : (p : A → Bool) (xs : List A) → length (keep p xs) ≤ length xs
+  unfolding keep
+  length-keep p [] = omega arith
+  length-keep p (x ∷ xs) = go (p x) (length-keep p xs)
+    where
+      go : (b : Bool) → length (keep p xs) ≤ length xs → length (cond b (x ∷ keep p xs) (keep p xs)) ≤ length (x ∷ xs)
+      go true h = omega arith
+      go false h = omega arith
+
+  pub all-keep : (q p : A → Bool) (xs : List A) → all p xs ≡ true → all p (keep q xs) ≡ true
+  all-keep q p xs h = in-all p (keep q xs) (λ x m. all-in p ((in-keep q xs m) .0) h)
+
+pub in-map : {A B : Type 0} (f : A → B) (xs : List A) {y : B} → List·Memᴰ y (map f xs) → (x : A) × List·Memᴰ x xs × (y ≡ f x)
+in-map f (x ∷ xs) (List·Memᴰ·head e) = (x, List·Memᴰ·head refl, e)
+in-map f (x ∷ xs) (List·Memᴰ·tail m) = let (z, n, e) = in-map f xs m in (z, List·Memᴰ·tail n, e)
+
+pub map-in : {A B : Type 0} (f : A → B) {xs : List A} {x : A} → List·Memᴰ x xs → List·Memᴰ (f x) (map f xs)
+map-in f (List·Memᴰ·head e) = List·Memᴰ·head (ap f e)
+map-in f (List·Memᴰ·tail m) = List·Memᴰ·tail (map-in f m)
+
+-- ---- places
+
+module _ {A : Type 0} (f : ℕ → A → Bool) where
+  pub allAt-at : (k : ℕ) (xs : List A) → allAt f k xs ≡ true → (i : ℕ) (d : A) → i < length xs → f (k + i) (getD xs i d) ≡ true
+  unfolding allAt
+  allAt-at k [] h i d l = absurd (omega arith)
+  allAt-at k (x ∷ xs) h zero d l = rw (add-zero k) (and-l (f k x) (allAt f (suc k) xs) h)
+  allAt-at k (x ∷ xs) h (suc i) d l =
+      let e : k + suc i ≡ suc k + i = omega arith in
+      rw e (allAt-at (suc k) xs (and-r (f k x) (allAt f (suc k) xs) h) i d (omega arith))
+
+  pub at-allAt : (k : ℕ) (xs : List A) (d : A) → ((i : ℕ) → i < length xs → f (k + i) (getD xs i d) ≡ true) → allAt f k xs ≡ true
+  unfolding allAt
+  at-allAt k [] d h = refl
+  at-allAt k (x ∷ xs) d h = and-i (f k x) (allAt f (suc k) xs) (rw (add-zero k) at (h 0 (omega arith))) (at-allAt (suc k) xs d (λ i l. let e : suc k + i ≡ k + suc i = omega arith in rw e (h (suc i) (omega arith))))
+
+-- an entry has a place, and what stands at a place is an entry
+module _ {A : Type 0} where
+  pub in-at : {xs : List A} {x : A} → List·Memᴰ x xs → Among xs x
+  in-at (List·Memᴰ·head {x = y} {xs = ys} e) = (0, (omega arith, sym e))
+  in-at (List·Memᴰ·tail {x = y} {xs = ys} m) = let (i, a) = in-at m in (suc i, (omega (arith, a .0), a .1))
+
+  -- below the length the default does not matter
+  pub getD-any : (xs : List A) (i : ℕ) (d e : A) → i < length xs → getD xs i d ≡ getD xs i e
+  getD-any [] i d e l = absurd (omega arith)
+  getD-any (x ∷ xs) zero d e l = refl
+  getD-any (x ∷ xs) (suc i) d e l = getD-any xs i d e (omega arith)
+
+  pub place-in : (xs : List A) (i : ℕ) (d : A) → i < length xs → List·Memᴰ (getD xs i d) xs
+  place-in [] i d l = absurd (omega arith)
+  place-in (x ∷ xs) zero d l = List·Memᴰ·head refl
+  place-in (x ∷ xs) (suc i) d l = List·Memᴰ·tail (place-in xs i d (omega arith))
+
+  pub at-in : (xs : List A) (i : ℕ) (x : A) → At xs i x → List·Memᴰ x xs
+  at-in xs i x a = rw (a .1) at (place-in xs i x (a .0))
+
+module _ {A : Type 0} (f : A → A → Bool) where
+  pub onward-at : (xs : List A) → onward f xs ≡ true → (i j : ℕ) (d e : A) → i ≤ j → j < length xs → f (getD xs i d) (getD xs j e) ≡ true
+  unfolding onward all
+  onward-at [] h i j d e p l = absurd (omega arith)
+  onward-at (x ∷ xs) h zero zero d e p l = and-l (f x x) (all (f x) xs) (and-l (all (f x) (x ∷ xs)) (onward f xs) h)
+  onward-at (x ∷ xs) h zero (suc j) d e p l = all-in (f x) (place-in xs j e (omega arith)) (and-r (f x x) (all (f x) xs) (and-l (all (f x) (x ∷ xs)) (onward f xs) h))
+  onward-at (x ∷ xs) h (suc i) zero d e p l = absurd (omega arith)
+  onward-at (x ∷ xs) h (suc i) (suc j) d e p l = onward-at xs (and-r (all (f x) (x ∷ xs)) (onward f xs) h) i j d e (omega arith) (omega arith)
+
+  pub at-onward : (xs : List A) → ((i j : ℕ) (x y : A) → At xs i x → At xs j y → i ≤ j → f x y ≡ true) → onward f xs ≡ true
+  unfolding onward
+  at-onward [] g = refl
+  at-onward (x ∷ xs) g = and-i (all (f x) (x ∷ xs)) (onward f xs) (in-all (f x) (x ∷ xs) (λ y m. let (j, a) = in-at m in g 0 j x y (omega arith, refl) a (omega arith))) (at-onward xs (λ i j y z a b p. g (suc i) (suc j) y z (omega (arith, a .0), a .1) (omega (arith, b .0), b .1) (omega arith)))
+
+pub is-some : {A : Type 0} (o : Option A) → isNone o ≡ false → (a : A) × (o ≡ some a)
+is-some none h = clash true refl h
+is-some (some a) h = (a, refl)
+
+-- ---- lists kept in part
+
+module _ {A : Type 0} where
+  pub keep-append : (p : A → Bool) (xs ys : List A) → keep p (xs ++ ys) ≡ keep p xs ++ keep p ys
+  unfolding keep
+  keep-append p [] ys = refl
+  keep-append p (x ∷ xs) ys = go (p x) (keep-append p xs ys)
+    where
+      go : (b : Bool) → keep p (xs ++ ys) ≡ keep p xs ++ keep p ys → cond b (x ∷ keep p (xs ++ ys)) (keep p (xs ++ ys)) ≡ cond b (x ∷ keep p xs) (keep p xs) ++ keep p ys
+      go true e = ap (λ (zs : List A). x ∷ zs) e
+      go false e = e
+
+  pub keep-none : (p : A → Bool) (xs : List A) → ((x : A) → List·Memᴰ x xs → p x ≡ false) → keep p xs ≡ []
+  unfolding keep
+  keep-none p [] f = refl
+  keep-none p (x ∷ xs) f = rw (f x (List·Memᴰ·head refl)) (keep-none p xs (λ y m. f y (List·Memᴰ·tail m)))
+
+  -- a second keeping that drops nothing of the first
+  pub keep-keep : (p q : A → Bool) (xs : List A) → ((x : A) → p x ≡ true → q x ≡ true) → keep p (keep q xs) ≡ keep p xs
+  unfolding keep
+  keep-keep p q [] f = refl
+  keep-keep p q (x ∷ xs) f = go (q x) refl (p x) refl (keep-keep p q xs f)
+    where
+      go : (b : Bool) → q x ≡ b → (c : Bool) → p x ≡ c → keep p (keep q xs) ≡ keep p xs → keep p (cond b (x ∷ keep q xs) (keep q xs)) ≡ cond c (x ∷ keep p xs) (keep p xs)
+      go true e true d ih = rw d (ap (λ (zs : List A). x ∷ zs) ih)
+      go true e false d ih = rw d ih
+      go false e true d ih = clash (q x) (f x d) e
+      go false e false d ih = ih

@@ -1,0 +1,82 @@
+-- The node table: an identity read, one node written anew, one node behind the others.
+use mathlib.Core.Path.{_∙_, _≡_, ap, refl, sym}
+use mathlib.Core.Bool.{false, true}
+use mathlib.Core.List.{List, List·Memᴰ, [], _++_, _∷_}
+use Prim.Native.Nat.{_<_, _≤_, ℕ}
+use native.Mathlib.Omega.{arith}
+use native.Mathlib.Decide.{decLt, ℕ-discrete}
+use lib.Dec.{ltb}
+use lib.ListN.{List·getD-append, List·getD-eq-default, length, length-append, set}
+use lib.Seq.{getD-append-seam, getD-set-other, getD-set-same}
+use Rattle.model.specs.declared.Node.{Node}
+use Rattle.model.specs.declared.Parent.{Parent}
+use Rattle.model.proofs.Laws.Booleans.{and-i, and-l, and-r, clash}
+use Rattle.model.proofs.Laws.Lists.{place-in}
+use Rattle.model.specs.Records.{blankNode}
+use Rattle.model.specs.Soundness.{parentOk}
+use Rattle.model.specs.Tables.{nodeAt, present}
+
+pub present-lt : (ns : List Node) (i : ℕ) → present ns i ≡ true → i < length ns
+unfolding nodeAt
+present-lt ns i h = go (decLt i (length ns))
+  where
+    go : Dec (i < length ns) → i < length ns
+    go (yes l) = l
+    go (no l) = clash false (sym (ap (λ (n : Node). n .present) (List·getD-eq-default ns blankNode {n = i} (omega arith))) ∙ h) refl
+
+pub at-same : (ns : List Node) (id : ℕ) (n : Node) → id < length ns → nodeAt (set ns id n) id ≡ n
+unfolding nodeAt
+at-same ns id n l = getD-set-same ns id n blankNode l
+
+pub at-other : (ns : List Node) (id i : ℕ) (n : Node) → (i ≡ id → ⊥) → nodeAt (set ns id n) i ≡ nodeAt ns i
+unfolding nodeAt
+at-other ns id i n d = getD-set-other ns id i n blankNode d
+
+-- a family that isLiveLinkOf of the new node and of every other isLiveLinkOf of all
+pub at-set : (P : ℕ → Node → Type 0) (ns : List Node) (id : ℕ) (n : Node) → id < length ns → P id n → ((i : ℕ) → P i (nodeAt ns i)) → (i : ℕ) → P i (nodeAt (set ns id n) i)
+at-set P ns id n l p f i = go (ℕ-discrete i id)
+  where
+    go : Dec (i ≡ id) → P i (nodeAt (set ns id n) i)
+    go (yes e) = rw (e, at-same ns id n l) p
+    go (no d) = rw (at-other ns id i n d) (f i)
+
+-- the same, where the others are known to be others
+pub at-set-other : (P : ℕ → Node → Type 0) (ns : List Node) (id : ℕ) (n : Node) → id < length ns → P id n → ((i : ℕ) → (i ≡ id → ⊥) → P i (nodeAt ns i)) → (i : ℕ) → P i (nodeAt (set ns id n) i)
+at-set-other P ns id n l p f i = go (ℕ-discrete i id)
+  where
+    go : Dec (i ≡ id) → P i (nodeAt (set ns id n) i)
+    go (yes e) = rw (e, at-same ns id n l) p
+    go (no d) = rw (at-other ns id i n d) (f i d)
+
+-- past the count stands the blank node
+pub past-blank : (ns : List Node) (i : ℕ) → length ns ≤ i → nodeAt ns i ≡ blankNode
+unfolding nodeAt
+past-blank ns i l = List·getD-eq-default ns blankNode {n = i} l
+
+pub node-in : (ns : List Node) (i : ℕ) → i < length ns → List·Memᴰ (nodeAt ns i) ns
+unfolding nodeAt
+node-in ns i l = place-in ns i blankNode l
+
+-- a node behind the others
+pub old-at : (ns : List Node) (n : Node) (i : ℕ) → i < length ns → nodeAt (ns ++ (n ∷ [])) i ≡ nodeAt ns i
+unfolding nodeAt
+old-at ns n i l = List·getD-append ns (n ∷ []) blankNode i l
+
+pub at-snoc : (P : ℕ → Node → Type 0) (ns : List Node) (n : Node) → P (length ns) n → ((i : ℕ) → P i (nodeAt ns i)) → (i : ℕ) → P i (nodeAt (ns ++ (n ∷ [])) i)
+at-snoc P ns n p f i = go (decLt i (length ns)) (ℕ-discrete i (length ns))
+  where
+    past : (length ns < i) → nodeAt (ns ++ (n ∷ [])) i ≡ nodeAt ns i
+    past l = unfold nodeAt in List·getD-eq-default (ns ++ (n ∷ [])) blankNode {n = i} (rw (length-append ns (n ∷ [])) (omega arith)) ∙ sym (List·getD-eq-default ns blankNode {n = i} (omega arith))
+
+    seam : nodeAt (ns ++ (n ∷ [])) (length ns) ≡ n
+    seam = unfold nodeAt in getD-append-seam ns n [] blankNode
+
+    go : Dec (i < length ns) → Dec (i ≡ length ns) → P i (nodeAt (ns ++ (n ∷ [])) i)
+    go (yes l) e = rw (old-at ns n i l) (f i)
+    go (no l) (yes e) = rw (e, seam) p
+    go (no l) (no e) = rw (past (omega arith)) (f i)
+
+pub parent-kept : (ns ms : List Node) (i : ℕ) (p : Parent) → ((k : ℕ) → p ≡ Parent.Of k → present ns k ≡ true → present ms k ≡ true) → parentOk ns i p ≡ true → parentOk ms i p ≡ true
+unfolding parentOk
+parent-kept ns ms i Parent.None f h = refl
+parent-kept ns ms i (Parent.Of k) f h = and-i (ltb k i) (present ms k) (and-l (ltb k i) (present ns k) h) (f k refl (and-r (ltb k i) (present ns k) h))

@@ -1,0 +1,118 @@
+-- Reached kernels are sound, so that no command on one answers 10, and the iteration rule holds of them.
+use mathlib.Core.Path.{_∙_, _≡_, ap, refl}
+use mathlib.Core.Bool.{Bool, _&&_, cond, false, not, true}
+use mathlib.Core.List.{List, [], _∷_}
+use mathlib.Core.Option.{Option, none, some}
+use Prim.Native.Nat.{ℕ}
+use native.Mathlib.Omega.{arith}
+use lib.Dec.{eqb}
+use Rattle.model.specs.declared.Binding.{Binding}
+use Rattle.model.specs.declared.Error.{Error}
+use Rattle.model.proofs.Laws.Booleans.{and-l, and-r, clash}
+use Rattle.model.proofs.Laws.Refusals.{step-cases}
+use Rattle.model.proofs.Theorems.Commands.{empty-sound, run-sound, step-sound}
+use Rattle.model.proofs.Theorems.Iteration.{iteration-rule}
+use Rattle.model.proofs.Theorems.Layouts.{layout-sound, read-back}
+use Rattle.model.specs.Commands.{Command, report, run, runFrom, step, tests}
+use Rattle.model.specs.Iteration.{RuleAt, begins, last, lastFrom, noted}
+use Rattle.model.specs.Kernels.{Commanded, KernelIterationRule, KernelRuleAt, asked, commanded, kernelFrom, kernelLastFrom, reached, targetOf}
+use Rattle.model.specs.Layouts.{layOut, soundKernel}
+use Rattle.model.specs.Lifecycle.{checkIteration}
+use Rattle.model.specs.Lists.{all}
+use Rattle.model.specs.Observers.{phase}
+use Rattle.model.specs.Refusals.{Reply, accepted, first, number}
+use Rattle.model.specs.Resolution.{committed, target}
+use Rattle.model.specs.Sizes.{Sizes}
+use Rattle.model.specs.Soundness.{sound}
+use Rattle.model.specs.Tables.{Tables, empty}
+
+module _ (S : Sizes) (T : Tables) (h : sound S T ≡ true) where
+  -- on a laid out kernel: what is asked, and what is commanded
+  pub asked-of : {A : Type 0} (u : A) (f : Tables → A) → asked S (layOut S T) u f ≡ f T
+  unfolding asked
+  asked-of u f = rw (layout-sound S T h, read-back S T)
+
+  pub commanded-of : (c : Command) → commanded S (layOut S T) c ≡ record { kernel = layOut S ((step S T c) .tables); reply = (step S T c) .reply }
+  unfolding commanded
+  commanded-of c = rw (layout-sound S T h, read-back S T)
+
+pub kernel-run : (S : Sizes) (T : Tables) (cs : List Command) → sound S T ≡ true → kernelFrom S (layOut S T) cs ≡ layOut S (runFrom S T cs)
+unfolding kernelFrom runFrom
+kernel-run S T [] h = refl
+kernel-run S T (c ∷ cs) h = ap (λ (o : Commanded). kernelFrom S (o .kernel) cs) (commanded-of S T h c) ∙ kernel-run S ((step S T c) .tables) cs (step-sound S T c h)
+
+pub reached-is : (S : Sizes) (cs : List Command) → reached S cs ≡ layOut S (run S cs)
+reached-is S cs = kernel-run S empty cs (empty-sound S)
+
+pub reached-sound : (S : Sizes) (cs : List Command) → soundKernel S (reached S cs) ≡ true
+reached-sound S cs = rw (reached-is S cs) (layout-sound S (run S cs) (run-sound S cs))
+
+-- no row has a test that gives 10, so only the entry does
+undamaged : (S : Sizes) (T : Tables) (c : Command) → all (λ (t : Bool × Error). not (eqb (number (t .1)) (number Error.Damaged))) (tests S T c) ≡ true
+unfolding all
+undamaged S T (Command.insert q ds ps) = refl
+undamaged S T (Command.declareProvision id p) = refl
+undamaged S T (Command.releaseProvision id p) = refl
+undamaged S T (Command.configurePendingDependencies id l) = refl
+undamaged S T (Command.begin id) = refl
+undamaged S T (Command.finish id) = refl
+undamaged S T (Command.leave id) = refl
+undamaged S T (Command.leaveIfChanged id) = refl
+undamaged S T (Command.retire id) = refl
+undamaged S T (Command.beginCleanup id) = refl
+undamaged S T (Command.finishCleanup id) = refl
+undamaged S T (Command.remove id) = refl
+undamaged S T Command.compactBindings = refl
+undamaged S T Command.compactDeclarations = refl
+
+first-among : (ts : List (Bool × Error)) (e : Error) (f : Error → Bool) → all (λ (t : Bool × Error). f (t .1)) ts ≡ true → first ts ≡ some e → f e ≡ true
+unfolding all first
+first-among [] e f h q = let z : _≡_ {A = ℕ} 0 1 = cc in absurd (omega arith)
+first-among (t ∷ ts) e f h q = go (t .0) refl (λ x. first-among ts e f (and-r (f (t .1)) _ h) x)
+  where
+    go : (b : Bool) → t .0 ≡ b → (first ts ≡ some e → f e ≡ true) → f e ≡ true
+    go true x g = let y : t .1 ≡ e = cc (rw x at q) in rw y at (and-l (f (t .1)) _ h)
+    go false x g = g (rw x at q)
+
+report-accepted : (T : Tables) (c : Command) (e : Error) → report T c ≡ Reply.refused e → ⊥
+report-accepted T c e h = clash {A = ⊥} (accepted (report T c)) (yes-accepted c) (rw h)
+  where
+    yes-accepted : (c : Command) → accepted (report T c) ≡ true
+    yes-accepted (Command.insert q ds ps) = refl
+    yes-accepted (Command.declareProvision id p) = refl
+    yes-accepted (Command.releaseProvision id p) = refl
+    yes-accepted (Command.configurePendingDependencies id l) = refl
+    yes-accepted (Command.begin id) = refl
+    yes-accepted (Command.finish id) = refl
+    yes-accepted (Command.leave id) = refl
+    yes-accepted (Command.leaveIfChanged id) = refl
+    yes-accepted (Command.retire id) = refl
+    yes-accepted (Command.beginCleanup id) = refl
+    yes-accepted (Command.finishCleanup id) = refl
+    yes-accepted (Command.remove id) = refl
+    yes-accepted Command.compactBindings = refl
+    yes-accepted Command.compactDeclarations = refl
+
+step-undamaged : (S : Sizes) (T : Tables) (c : Command) → (step S T c) .reply ≡ Reply.refused Error.Damaged → ⊥
+step-undamaged S T c = step-cases (λ o. o .reply ≡ Reply.refused Error.Damaged → ⊥) S T c (λ e h q. let d : e ≡ Error.Damaged = cc in clash {A = ⊥} false (first-among (tests S T c) Error.Damaged (λ x. not (eqb (number x) (number Error.Damaged))) (undamaged S T c) (rw d at h)) refl) (λ p q. report-accepted T c Error.Damaged q)
+
+-- no command on a reached kernel answers 10
+pub reached-undamaged : (S : Sizes) (cs : List Command) (c : Command) → (commanded S (reached S cs) c) .reply ≡ Reply.refused Error.Damaged → ⊥
+reached-undamaged S cs c q = step-undamaged S (run S cs) c (rw (reached-is S cs, commanded-of S (run S cs) (run-sound S cs) c) at q)
+
+kernel-last : (S : Sizes) (T : Tables) (id : ℕ) (cs : List Command) (a : Option (List Binding)) → sound S T ≡ true → kernelLastFrom S (layOut S T) id cs a ≡ lastFrom S T id cs a
+unfolding kernelLastFrom lastFrom noted
+kernel-last S T id [] a h = refl
+kernel-last S T id (c ∷ cs) a h =
+    ap (λ (o : Commanded). kernelLastFrom S (o .kernel) id cs (cond (begins id c && accepted (o .reply)) (targetOf S (layOut S T) id) a)) (commanded-of S T h c)
+    ∙ ap (λ (t : Option (List Binding)). kernelLastFrom S (layOut S ((step S T c) .tables)) id cs (cond (begins id c && accepted ((step S T c) .reply)) t a)) (asked-of S T h none (λ U. target U id))
+    ∙ kernel-last S ((step S T c) .tables) id cs (cond (begins id c && accepted ((step S T c) .reply)) (target T id) a) (step-sound S T c h)
+
+-- the rule of sound tables is that of their kernel
+kernel-rule : (S : Sizes) (T : Tables) (id : ℕ) (a : Option (List Binding)) → sound S T ≡ true → RuleAt S T id a → KernelRuleAt S (layOut S T) id a
+kernel-rule S T id a h r =
+    let U : Tables = (step S T (Command.leaveIfChanged id)) .tables in
+    rw (asked-of S T h none (λ T. phase T id), asked-of S T h [] (λ T. committed (T .links) id), asked-of S T h none (λ T. target T id), asked-of S T h (Reply.refused Error.Damaged) (λ T. checkIteration T id), commanded-of S T h (Command.leaveIfChanged id), asked-of S U (step-sound S T (Command.leaveIfChanged id) h) none (λ T. phase T id)) r
+
+pub kernel-iteration-rule : KernelIterationRule
+kernel-iteration-rule S cs id = rw (reached-is S cs, kernel-last S empty id cs none (empty-sound S)) (kernel-rule S (run S cs) id (last S cs id) (run-sound S cs) (iteration-rule S cs id))

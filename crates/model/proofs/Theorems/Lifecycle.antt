@@ -1,0 +1,70 @@
+-- finish, leave, retire, begin_cleanup and remove keep soundness: one node is written anew.
+use mathlib.Core.Path.{_≡_, refl}
+use mathlib.Core.Bool.{false, not, true}
+use Prim.Native.Nat.{ℕ}
+use lib.Dec.{eqb}
+use borrow.Author.Tests.{eq-eqb}
+use Rattle.model.specs.declared.Node.{Node}
+use Rattle.model.proofs.Laws.Booleans.{and-i, and-l, and-r, clash, not-f}
+use Rattle.model.proofs.Laws.Facts.{Sound}
+use Rattle.model.proofs.Laws.Lists.{none-in}
+use Rattle.model.proofs.Laws.Phases.{inactive-stays, loading-running, running-installed, running-stays, unloading-installed}
+use Rattle.model.proofs.Laws.Refusals.{Passed}
+use Rattle.model.proofs.Laws.Update.{calm, sound-update}
+use Rattle.model.proofs.Theorems.UpdateNode.{no-child}
+use Rattle.model.specs.Lifecycle.{beginCleanupTests, cleanupBegun, finished, iterationTests, leaveTests, left, relies, removeTests, removedFrom, retireTests, retiredFrom}
+use Rattle.model.specs.Observers.{children}
+use Rattle.model.specs.Records.{isInactive, isRunning, isUnloading}
+use Rattle.model.specs.Sizes.{Sizes}
+use Rattle.model.specs.Tables.{Tables, nodeAt, present}
+
+module _ (S : Sizes) (T : Tables) (id : ℕ) (k : Sound S T) where
+  abbrev node : Node
+  node = nodeAt (T .nodes) id
+
+  pub retiredFrom-sound : Passed (retireTests T id) → Sound S (retiredFrom T id)
+  retiredFrom-sound p = let t : present (T .nodes) id ≡ true = not-f _ (p .0) in sound-update S T id _ k (calm T id _ (k .safe) t refl t (λ i. i) (λ r. (r, k .safe .nodes id .restoring-unloading r))) (λ i. i)
+
+  pub left-sound : Passed (leaveTests T id) → Sound S (left T id)
+  left-sound p =
+      let t : present (T .nodes) id ≡ true = not-f _ (p .0) in
+      sound-update S T id _ k (calm T id _ (k .safe) t refl t (λ i. refl) (λ r. (r, refl))) (λ i. running-installed (node .phase) (not-f _ (p .1 .0)))
+
+  pub finished-sound : Passed (iterationTests T id) → Sound S (finished T id)
+  finished-sound p =
+      let t : present (T .nodes) id ≡ true = not-f _ (p .0) in
+      let q : isRunning (node .phase) ≡ true = loading-running (node .phase) (not-f _ (p .1 .0)) in
+      sound-update S T id _ k (calm T id _ (k .safe) t refl t (λ i. refl) (λ r. clash _ (k .safe .nodes id .restoring-unloading r) (running-stays (node .phase) q))) (λ i. running-installed (node .phase) q)
+
+  pub cleanupBegun-sound : Passed (beginCleanupTests T id) → Sound S (cleanupBegun T id)
+  unfolding relies
+  cleanupBegun-sound p =
+      let t : present (T .nodes) id ≡ true = not-f _ (p .0) in
+      let q : isUnloading (node .phase) ≡ true = and-l (isUnloading (node .phase)) (not (node .restoring)) (not-f _ (p .1 .0)) in
+      let i : not (isInactive (node .phase)) ≡ true = unloading-installed (node .phase) q in
+      sound-update S T id _ k (record {
+        there = t;
+        parent-ok = λ a. k .safe .nodes id .parent-ok t;
+        absent-inactive = λ a. clash _ t a;
+        restoring-present = λ r. t;
+        restoring-unloading = λ r. q;
+        children = λ j a e. t;
+        consumes = λ l m v e. (t, i);
+        provides = λ l m v e. clash _ (and-i (l .live) (eqb (l .binding .provider) id) v (eq-eqb _ _ e)) (none-in (relies id) m (p .1 .1 .0));
+      }) (λ j. i)
+
+  pub removedFrom-sound : Passed (removeTests T id) → Sound S (removedFrom T id)
+  removedFrom-sound p =
+      let t : present (T .nodes) id ≡ true = not-f _ (p .0) in
+      let q : isInactive (node .phase) ≡ true = and-r (node .retired) (isInactive (node .phase)) (not-f _ (p .1 .0)) in
+      let i : not (isInactive (node .phase)) ≡ false = rw q in
+      sound-update S T id _ k (record {
+        there = t;
+        parent-ok = λ a. k .safe .nodes id .parent-ok t;
+        absent-inactive = λ a. q;
+        restoring-present = λ r. clash _ (k .safe .nodes id .restoring-unloading r) (inactive-stays (node .phase) q);
+        restoring-unloading = k .safe .nodes id .restoring-unloading;
+        children = λ j a e. absurd (no-child T id j (p .1 .1 .0) a e);
+        consumes = λ l m v e. clash _ (rw e at (k .safe .live l m v .consumer-installed)) i;
+        provides = λ l m v e. clash _ (rw e at (k .safe .live l m v .provider-installed)) i;
+      }) (λ j. j)

@@ -1,0 +1,39 @@
+-- Insertion: insert, and check_insert with the same tests.
+use mathlib.Core.Bool.{Bool, _||_, not, true}
+use mathlib.Core.List.{List, [], _++_, _∷_, map}
+use Prim.Native.Nat.{_+_, ℕ}
+use lib.Dec.{leb, ltb}
+use lib.ListN.{length}
+use Rattle.model.specs.declared.Declaration.{Declaration}
+use Rattle.model.specs.declared.Error.{Error}
+use Rattle.model.specs.declared.Parent.{Parent}
+use Rattle.model.specs.declared.PortList.{PortList}
+use Rattle.model.specs.Interface.{distinct, listed, taken, tooLong}
+use Rattle.model.specs.Lists.{any}
+use Rattle.model.specs.Records.{dependency, newNode, provision}
+use Rattle.model.specs.Refusals.{Reply, first, orElse}
+use Rattle.model.specs.Sizes.{Sizes}
+use Rattle.model.specs.Tables.{Tables, present}
+
+-- a parent, if any, is present; it may be retired
+unfoldable pub parentPresent : Tables → Parent → Bool
+parentPresent T Parent.None = true
+parentPresent T (Parent.Of p) = present (T .nodes) p
+
+-- a list repeats a port, or a present owner provides a listed provision
+abbrev pub clashes : Tables → PortList → PortList → Bool
+clashes T ds ps = not (distinct (listed ds)) || not (distinct (listed ps)) || any (taken T) (listed ps)
+
+abbrev pub insertTests : Sizes → Tables → Parent → PortList → PortList → List (Bool × Error)
+insertTests S T q ds ps = (tooLong ds || tooLong ps, Error.Capacity) ∷ (leb (S .identities) (length (T .nodes)), Error.Capacity) ∷ (not (parentPresent T q), Error.Unknown) ∷ (clashes T ds ps, Error.Conflict) ∷ (ltb (S .declarations) (length (T .declarations) + length (listed ds) + length (listed ps)), Error.Capacity) ∷ []
+
+-- the new node's declarations: dependencies, then provisions
+abbrev pub newDeclarations : ℕ → PortList → PortList → List Declaration
+newDeclarations id ds ps = map (dependency id) (listed ds) ++ map (provision id) (listed ps)
+
+-- the identity is the node count
+abbrev pub inserted : Tables → Parent → PortList → PortList → Tables
+inserted T q ds ps = record { nodes = T .nodes ++ (newNode q ∷ []); declarations = T .declarations ++ newDeclarations (length (T .nodes)) ds ps; links = T .links }
+
+unfoldable pub checkInsert : Sizes → Tables → Parent → PortList → PortList → Reply
+checkInsert S T q ds ps = orElse (first (insertTests S T q ds ps)) Reply.done

@@ -1,0 +1,81 @@
+-- Interface commands: declare_provision, release_provision, configure_pending_dependencies.
+use mathlib.Core.Bool.{Bool, _&&_, _||_, cond, not, true}
+use mathlib.Core.List.{List, [], _++_, _∷_, map}
+use Prim.Native.Nat.{_+_, ℕ}
+use lib.Dec.{eqb, leb, ltb}
+use lib.ListN.{length, take}
+use Rattle.model.specs.declared.Declaration.{Declaration}
+use Rattle.model.specs.declared.Error.{Error}
+use Rattle.model.specs.declared.Link.{Link}
+use Rattle.model.specs.declared.Port.{Port}
+use Rattle.model.specs.declared.PortList.{PortList}
+use Rattle.model.specs.Lists.{any, keep, padded}
+use Rattle.model.specs.Records.{blankPort, dependency, isPending, isRunning, portOf, provision, samePort}
+use Rattle.model.specs.Resolution.{isDependencyOf}
+use Rattle.model.specs.Sizes.{Sizes, listLimit}
+use Rattle.model.specs.Soundness.{declares, isDeclaration}
+use Rattle.model.specs.Tables.{Tables, nodeAt, present, withDeclarations}
+
+-- ---- operand lists
+
+-- the ports below the count
+abbrev pub listed : PortList → List Port
+listed l = take (l .count) (l .ports)
+
+-- the port list of these ports: at most 32 of them in its array, and all of them in its count
+abbrev pub portList : List Port → PortList
+portList ps = record { ports = take listLimit (padded listLimit blankPort ps); count = length ps }
+
+abbrev pub tooLong : PortList → Bool
+tooLong l = ltb listLimit (l .count)
+
+-- no port twice
+unfoldable pub distinct : List Port → Bool
+distinct [] = true
+distinct (p ∷ ps) = not (any (samePort p) ps) && distinct ps
+
+-- ---- the place 'identity': 1 if it is not present
+
+abbrev pub unknown : Tables → ℕ → Bool × Error
+unknown T id = (not (present (T .nodes) id), Error.Unknown)
+
+-- ---- declare_provision
+
+-- a provision of the port by a present owner, whatever its phase or retirement
+unfoldable pub takenBy : (ℕ → Bool) → Port → Declaration → Bool
+takenBy here p d = d .provides && samePort (d .port) p && here (d .owner)
+
+unfoldable pub taken : Tables → Port → Bool
+taken T p = any (takenBy (present (T .nodes)) p) (T .declarations)
+
+-- this owner provides the port: declaring it again is done, unchanged
+abbrev pub own : Tables → ℕ → Port → Bool
+own T id p = declares (T .declarations) id p true
+
+abbrev pub declareProvisionTests : Sizes → Tables → ℕ → Port → List (Bool × Error)
+declareProvisionTests S T id p = let n = nodeAt (T .nodes) id in unknown T id ∷ (n .retired, Error.Retired) ∷ (not (isRunning (n .phase) || isPending n), Error.InvalidState) ∷ (not (own T id p) && taken T p, Error.Conflict) ∷ (not (own T id p) && leb (S .declarations) (length (T .declarations)), Error.Capacity) ∷ []
+
+abbrev pub provisionDeclared : Tables → ℕ → Port → Tables
+provisionDeclared T id p = withDeclarations T (cond (own T id p) (T .declarations) (T .declarations ++ (provision id p ∷ [])))
+
+-- ---- release_provision
+
+-- a live link with this provider and port
+unfoldable pub reliesOn : ℕ → Port → Link → Bool
+reliesOn id p l = l .live && eqb (l .binding .provider) id && samePort (portOf (l .binding)) p
+
+abbrev pub releaseProvisionTests : Tables → ℕ → Port → List (Bool × Error)
+releaseProvisionTests T id p = unknown T id ∷ (any (reliesOn id p) (T .links), Error.Relied) ∷ []
+
+-- drops every provision of that owner and port, possibly none
+abbrev pub provisionReleased : Tables → ℕ → Port → Tables
+provisionReleased T id p = withDeclarations T (keep (λ d. not (isDeclaration id p true d)) (T .declarations))
+
+-- ---- configure_pending_dependencies
+
+abbrev pub configureTests : Sizes → Tables → ℕ → PortList → List (Bool × Error)
+configureTests S T id l = let n = nodeAt (T .nodes) id in (tooLong l, Error.Capacity) ∷ unknown T id ∷ (n .retired, Error.Retired) ∷ (not (isPending n), Error.InvalidState) ∷ (ltb (S .declarations) (length (listed l) + length (T .declarations)), Error.Capacity) ∷ (not (distinct (listed l)), Error.Conflict) ∷ []
+
+-- drops the owner's dependencies, then appends the list in order
+abbrev pub dependenciesConfigured : Tables → ℕ → PortList → Tables
+dependenciesConfigured T id l = withDeclarations T (keep (λ d. not (isDependencyOf id d)) (T .declarations) ++ map (dependency id) (listed l))

@@ -1,0 +1,100 @@
+-- Lifecycle: begin, check_iteration, finish, leave, leave_if_changed, retire, begin_cleanup, finish_cleanup, remove.
+use mathlib.Core.Bool.{Bool, _&&_, not}
+use mathlib.Core.List.{List, [], _++_, _∷_, map}
+use mathlib.Core.Option.{Option, none, some}
+use Prim.Native.Nat.{_+_, suc, ℕ}
+use lib.Dec.{eqb, ltb}
+use lib.ListN.{length, set}
+use Rattle.model.specs.declared.Binding.{Binding}
+use Rattle.model.specs.declared.Error.{Error}
+use Rattle.model.specs.declared.Link.{Link}
+use Rattle.model.specs.declared.Node.{Node}
+use Rattle.model.specs.declared.Phase.{Phase}
+use Rattle.model.specs.Interface.{unknown}
+use Rattle.model.specs.Lists.{any, isNone}
+use Rattle.model.specs.Records.{absentNode, deadFor, isChildOf, isInactive, isLoading, isRunning, isUnloading, liveLink, restoredNode, restoringNode, retiredNode, startedNode, withPhase}
+use Rattle.model.specs.Refusals.{Reply, first, orElse}
+use Rattle.model.specs.Resolution.{target}
+use Rattle.model.specs.Sizes.{Sizes, lastGeneration}
+use Rattle.model.specs.Tables.{Tables, nodeAt, withNode}
+
+abbrev pub phaseAt : Tables → ℕ → Phase
+phaseAt T id = (nodeAt (T .nodes) id) .phase
+
+-- ---- begin
+
+-- the bindings of a target, none of no target
+abbrev pub bindings : Option (List Binding) → List Binding
+bindings none = []
+bindings (some bs) = bs
+
+abbrev pub beginTests : Sizes → Tables → ℕ → List (Bool × Error)
+beginTests S T id = let n = nodeAt (T .nodes) id in unknown T id ∷ (not (isInactive (n .phase)), Error.InvalidState) ∷ (n .retired, Error.Retired) ∷ (eqb (n .generation) lastGeneration, Error.Capacity) ∷ (isNone (target T id), Error.MissingDependency) ∷ (ltb (S .links) (length (T .links) + length (bindings (target T id))), Error.Capacity) ∷ []
+
+-- Loading, the next generation
+abbrev pub begunNode : Node → Node
+begunNode n = startedNode (suc (n .generation)) n
+
+-- the target is appended as live links
+abbrev pub begun : Tables → ℕ → Tables
+begun T id = record { nodes = set (T .nodes) id (begunNode (nodeAt (T .nodes) id)); declarations = T .declarations; links = T .links ++ map (liveLink id) (bindings (target T id)) }
+
+-- ---- check_iteration and finish
+
+abbrev pub iterationTests : Tables → ℕ → List (Bool × Error)
+iterationTests T id = unknown T id ∷ (not (isLoading (phaseAt T id)), Error.InvalidState) ∷ (isNone (target T id), Error.Changed) ∷ []
+
+unfoldable pub checkIteration : Tables → ℕ → Reply
+checkIteration T id = orElse (first (iterationTests T id)) Reply.done
+
+abbrev pub finished : Tables → ℕ → Tables
+finished T id = withNode T id (withPhase Phase.Active (nodeAt (T .nodes) id))
+
+-- ---- leave and leave_if_changed
+
+abbrev pub leaveTests : Tables → ℕ → List (Bool × Error)
+leaveTests T id = unknown T id ∷ (not (isRunning (phaseAt T id)), Error.InvalidState) ∷ []
+
+abbrev pub leaveIfChangedTests : Tables → ℕ → List (Bool × Error)
+leaveIfChangedTests T id = unknown T id ∷ (not (isRunning (phaseAt T id)), Error.InvalidState) ∷ (not (isNone (target T id)), Error.Changed) ∷ []
+
+abbrev pub left : Tables → ℕ → Tables
+left T id = withNode T id (withPhase Phase.Unloading (nodeAt (T .nodes) id))
+
+-- ---- retire: in each phase, and twice
+
+abbrev pub retireTests : Tables → ℕ → List (Bool × Error)
+retireTests T id = unknown T id ∷ []
+
+abbrev pub retiredFrom : Tables → ℕ → Tables
+retiredFrom T id = withNode T id (retiredNode (nodeAt (T .nodes) id))
+
+-- ---- begin_cleanup
+
+-- a live link with this provider
+unfoldable pub relies : ℕ → Link → Bool
+relies id l = l .live && eqb (l .binding .provider) id
+
+abbrev pub beginCleanupTests : Tables → ℕ → List (Bool × Error)
+beginCleanupTests T id = let n = nodeAt (T .nodes) id in unknown T id ∷ (not (isUnloading (n .phase) && not (n .restoring)), Error.InvalidState) ∷ (any (relies id) (T .links), Error.Relied) ∷ []
+
+abbrev pub cleanupBegun : Tables → ℕ → Tables
+cleanupBegun T id = withNode T id (restoringNode (nodeAt (T .nodes) id))
+
+-- ---- finish_cleanup
+
+abbrev pub finishCleanupTests : Tables → ℕ → List (Bool × Error)
+finishCleanupTests T id = unknown T id ∷ (not ((nodeAt (T .nodes) id) .restoring), Error.InvalidState) ∷ []
+
+-- every link of the consumer becomes dead; no link record goes
+abbrev pub cleanupFinished : Tables → ℕ → Tables
+cleanupFinished T id = record { nodes = set (T .nodes) id (restoredNode (nodeAt (T .nodes) id)); declarations = T .declarations; links = map (deadFor id) (T .links) }
+
+-- ---- remove
+
+abbrev pub removeTests : Tables → ℕ → List (Bool × Error)
+removeTests T id = let n = nodeAt (T .nodes) id in unknown T id ∷ (not (n .retired && isInactive (n .phase)), Error.InvalidState) ∷ (any (isChildOf id) (T .nodes), Error.Children) ∷ []
+
+-- clears present only
+abbrev pub removedFrom : Tables → ℕ → Tables
+removedFrom T id = withNode T id (absentNode (nodeAt (T .nodes) id))

@@ -1,0 +1,58 @@
+-- The six points of soundness as document 01 words them, over the places of the tables. Theorems/Points.antt: they are the test `wf`.
+use mathlib.Core.Path.{_≡_}
+use mathlib.Core.Bool.{false, true}
+use mathlib.Core.List.{List}
+use Prim.Native.Nat.{_<_, _≤_, ℕ}
+use lib.ListN.{getD, length}
+use Rattle.model.specs.declared.Declaration.{Declaration}
+use Rattle.model.specs.declared.Link.{Link}
+use Rattle.model.specs.declared.Node.{Node}
+use Rattle.model.specs.declared.Parent.{Parent}
+use Rattle.model.specs.declared.Phase.{Phase}
+use Rattle.model.specs.Records.{dependency, portOf, provision}
+use Rattle.model.specs.Sizes.{Sizes}
+use Rattle.model.specs.Tables.{Tables}
+
+-- x stands at place i
+abbrev pub At : {A : Type 0} → List A → ℕ → A → Type 0
+At xs i x = (i < length xs) × (getD xs i x ≡ x)
+
+-- x stands somewhere
+abbrev pub Among : {A : Type 0} → List A → A → Type 0
+Among xs x = (i : ℕ) × At xs i x
+
+abbrev pub Present : Tables → ℕ → Type 0
+Present T id = (n : Node) × At (T .nodes) id n × (n .present ≡ true)
+
+-- present and not Inactive
+abbrev pub Installed : Tables → ℕ → Type 0
+Installed T id = (n : Node) × At (T .nodes) id n × (n .present ≡ true) × (n .phase ≡ Phase.Inactive → ⊥)
+
+abbrev pub Restoring : Tables → ℕ → Type 0
+Restoring T id = (n : Node) × At (T .nodes) id n × (n .restoring ≡ true)
+
+pub record Points (T : Tables) : Type 0 where
+  -- every declaration's owner is below the node count
+  pub owners : (i : ℕ) (d : Declaration) → At (T .declarations) i d → d .owner < length (T .nodes)
+  -- two provisions of one port by present owners have the same owner
+  pub provisions : (i j : ℕ) (d e : Declaration) → At (T .declarations) i d → At (T .declarations) j e → d .provides ≡ true → e .provides ≡ true → Present T (d .owner) → Present T (e .owner) → d .port ≡ e .port → d .owner ≡ e .owner
+  -- an absent node is Inactive and not restoring
+  pub absent : (i : ℕ) (n : Node) → At (T .nodes) i n → n .present ≡ false → (n .phase ≡ Phase.Inactive) × (n .restoring ≡ false)
+  -- a restoring node is present and Unloading
+  pub restoring : (i : ℕ) (n : Node) → At (T .nodes) i n → n .restoring ≡ true → (n .present ≡ true) × (n .phase ≡ Phase.Unloading)
+  -- a present node's parent, if any, is present and has a smaller identity
+  pub parents : (i p : ℕ) (n : Node) → At (T .nodes) i n → n .present ≡ true → n .parent ≡ Parent.Of p → Present T p × (p < i)
+  -- a live link's consumer and provider are present and not Inactive
+  pub ends : (i : ℕ) (l : Link) → At (T .links) i l → l .live ≡ true → Installed T (l .consumer) × Installed T (l .binding .provider)
+  -- its provider is not restoring
+  pub providers : (i : ℕ) (l : Link) → At (T .links) i l → l .live ≡ true → Restoring T (l .binding .provider) → ⊥
+  -- and both declared the port, as dependency and as provision
+  pub declared : (i : ℕ) (l : Link) → At (T .links) i l → l .live ≡ true → Among (T .declarations) (dependency (l .consumer) (portOf (l .binding))) × Among (T .declarations) (provision (l .binding .provider) (portOf (l .binding)))
+  -- where a live link's provider is a live link's consumer, the latter link stands strictly earlier
+  pub order : (i j : ℕ) (l m : Link) → At (T .links) i l → At (T .links) j m → l .live ≡ true → m .live ≡ true → l .binding .provider ≡ m .consumer → j < i
+  -- each dependency of a present node that isn't Inactive has a live link of that consumer with that port
+  pub covered : (i : ℕ) (d : Declaration) → At (T .declarations) i d → d .provides ≡ false → Installed T (d .owner) → (l : Link) × Among (T .links) l × (l .live ≡ true) × (l .consumer ≡ d .owner) × (portOf (l .binding) ≡ d .port)
+
+-- the tables are within the sizes
+abbrev pub Within : Sizes → Tables → Type 0
+Within S T = (length (T .nodes) ≤ S .identities) × (length (T .declarations) ≤ S .declarations) × (length (T .links) ≤ S .links)

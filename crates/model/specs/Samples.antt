@@ -1,0 +1,226 @@
+-- The sample sequences C01 to C12, and the order of the tests, each as one table of rows: what is asked of a kernel, and what it shows.
+-- a command, or a question that changes nothing
+use mathlib.Core.Path.{_≡_}
+use mathlib.Core.Bool.{Bool, cond, false, true}
+use mathlib.Core.List.{List, [], _∷_, map}
+use mathlib.Core.Option.{Option, none, some}
+use Prim.Native.Nat.{suc, ℕ}
+use Rattle.model.specs.declared.Error.{Error}
+use Rattle.model.specs.declared.Link.{Link}
+use Rattle.model.specs.declared.Node.{Node}
+use Rattle.model.specs.declared.Parent.{Parent}
+use Rattle.model.specs.declared.Phase.{Phase}
+use Rattle.model.specs.declared.Port.{Port}
+use Rattle.model.specs.declared.PortList.{PortList}
+use Rattle.model.specs.Commands.{Command}
+use Rattle.model.specs.Interface.{portList}
+use Rattle.model.specs.Kernels.{asked, commanded, emptyKernel}
+use Rattle.model.specs.Layouts.{Layout, tablesOf}
+use Rattle.model.specs.Lifecycle.{checkIteration}
+use Rattle.model.specs.Observers.{episodeGeneration, ids, phase}
+use Rattle.model.specs.Records.{dependency, provision}
+use Rattle.model.specs.Refusals.{Reply}
+use Rattle.model.specs.Sizes.{Sizes, controller, listLimit}
+use Rattle.model.specs.Tables.{Tables}
+
+pub data Ask : Type 0 where
+  does : Command → Ask
+  checks : ℕ → Ask
+  phaseOf : ℕ → Ask
+  generationOf : ℕ → Ask
+  lists : Ask
+  tables : Ask
+
+pub data Shown : Type 0 where
+  says : Reply → Shown
+  is : Option Phase → Shown
+  has : Option ℕ → Shown
+  gives : List ℕ → Shown
+  holds : Tables → Shown
+
+unfoldable pub shown : Sizes → Layout → Ask → Shown
+shown S k (Ask.does c) = Shown.says ((commanded S k c) .reply)
+shown S k (Ask.checks id) = Shown.says (asked S k (Reply.refused Error.Damaged) (λ T. checkIteration T id))
+shown S k (Ask.phaseOf id) = Shown.is (asked S k none (λ T. phase T id))
+shown S k (Ask.generationOf id) = Shown.has (asked S k none (λ T. episodeGeneration T id))
+shown S k Ask.lists = Shown.gives (asked S k [] ids)
+shown S k Ask.tables = Shown.holds (tablesOf k)
+
+unfoldable pub after : Sizes → Layout → Ask → Layout
+after S k (Ask.does c) = (commanded S k c) .kernel
+after S k (Ask.checks id) = k
+after S k (Ask.phaseOf id) = k
+after S k (Ask.generationOf id) = k
+after S k Ask.lists = k
+after S k Ask.tables = k
+
+pub record Row : Type 0 where
+  pub ask : Ask
+  pub shows : Shown
+
+-- what the rows' questions show, one after the other
+unfoldable pub play : Sizes → Layout → List Row → List Shown
+play S k [] = []
+play S k (r ∷ rs) = shown S k (r .ask) ∷ play S (after S k (r .ask)) rs
+
+abbrev pub asks : Ask → Shown → Row
+asks a s = record { ask = a; shows = s }
+
+-- a command and its reply
+abbrev pub calls : Command → Reply → Row
+calls c r = asks (Ask.does c) (Shown.says r)
+
+abbrev pub refuses : Command → Error → Row
+refuses c e = calls c (Reply.refused e)
+
+abbrev pub port : ℕ → ℕ → Port
+port k r = record { key = k; realm = r }
+
+abbrev pub noPorts : PortList
+noPorts = portList []
+
+abbrev pub only : Port → PortList
+only p = portList (p ∷ [])
+
+-- ---- C01 to C12
+
+abbrev P : Port
+P = port 7 1
+
+abbrev node : Bool → Bool → Phase → Parent → ℕ → Node
+node p r f q g = record { present = p; retired = r; phase = f; restoring = false; parent = q; generation = g }
+
+-- consumer 1, provider 0
+abbrev link10 : Bool → Link
+link10 b = record { consumer = 1; binding = record { key = 7; realm = 1; provider = 0 }; live = b }
+
+abbrev after01 : Tables
+after01 = record { nodes = node true false Phase.Inactive Parent.None 0 ∷ []; declarations = provision 0 P ∷ []; links = [] }
+
+abbrev after05 : Tables
+after05 = record { nodes = node true false Phase.Active Parent.None 1 ∷ node true false Phase.Loading Parent.None 1 ∷ []; declarations = provision 0 P ∷ dependency 1 P ∷ []; links = link10 true ∷ [] }
+
+abbrev after08 : Bool → Tables
+after08 compacted = record { nodes = node true false Phase.Unloading Parent.None 1 ∷ node true false Phase.Inactive Parent.None 1 ∷ []; declarations = provision 0 P ∷ dependency 1 P ∷ []; links = cond compacted [] (link10 false ∷ []) }
+
+abbrev after11 : Tables
+after11 = record { nodes = node false true Phase.Inactive Parent.None 1 ∷ node true true Phase.Inactive Parent.None 1 ∷ node true false Phase.Inactive Parent.None 0 ∷ node true false Phase.Inactive (Parent.Of 1) 0 ∷ []; declarations = dependency 1 P ∷ provision 2 P ∷ []; links = [] }
+
+abbrev pub samples : List Row
+samples =
+    -- C01
+    calls (Command.insert Parent.None noPorts (only P)) (Reply.issued 0) ∷
+    asks Ask.tables (Shown.holds after01) ∷
+    -- C02
+    calls (Command.insert Parent.None (only P) noPorts) (Reply.issued 1) ∷
+    -- C03
+    refuses (Command.begin 1) Error.MissingDependency ∷
+    -- C04
+    calls (Command.begin 0) Reply.done ∷
+    calls (Command.finish 0) Reply.done ∷
+    asks (Ask.phaseOf 0) (Shown.is (some Phase.Active)) ∷
+    asks (Ask.generationOf 0) (Shown.has (some 1)) ∷
+    -- C05
+    calls (Command.begin 1) Reply.done ∷
+    asks Ask.tables (Shown.holds after05) ∷
+    -- C06
+    asks (Ask.checks 1) (Shown.says Reply.done) ∷
+    -- C07
+    calls (Command.leave 0) Reply.done ∷
+    asks (Ask.checks 1) (Shown.says (Reply.refused Error.Changed)) ∷
+    refuses (Command.beginCleanup 0) Error.Relied ∷
+    -- C08
+    calls (Command.leave 1) Reply.done ∷
+    calls (Command.beginCleanup 1) Reply.done ∷
+    calls (Command.finishCleanup 1) Reply.done ∷
+    asks Ask.tables (Shown.holds (after08 false)) ∷
+    calls Command.compactBindings (Reply.removed 1) ∷
+    asks Ask.tables (Shown.holds (after08 true)) ∷
+    -- C09
+    calls (Command.beginCleanup 0) Reply.done ∷
+    calls (Command.finishCleanup 0) Reply.done ∷
+    calls (Command.retire 0) Reply.done ∷
+    refuses (Command.insert Parent.None noPorts (only P)) Error.Conflict ∷
+    -- C10
+    calls (Command.remove 0) Reply.done ∷
+    calls (Command.insert Parent.None noPorts (only P)) (Reply.issued 2) ∷
+    asks Ask.lists (Shown.gives (1 ∷ 2 ∷ [])) ∷
+    calls Command.compactDeclarations (Reply.removed 1) ∷
+    -- C11
+    calls (Command.retire 1) Reply.done ∷
+    calls (Command.insert (Parent.Of 1) noPorts noPorts) (Reply.issued 3) ∷
+    refuses (Command.remove 1) Error.Children ∷
+    asks Ask.tables (Shown.holds after11) ∷
+    -- C12
+    calls (Command.releaseProvision 2 (port 8 1)) Reply.done ∷
+    asks Ask.tables (Shown.holds after11) ∷ []
+
+abbrev pub SamplesHold : Type 0
+SamplesHold = play controller (emptyKernel controller) samples ≡ map (λ r. r .shows) samples
+
+-- ---- the order of the tests of a row, where two of them apply: at small sizes, so that the tables fill soon
+
+abbrev tiny : Sizes
+tiny = record { identities = 3; declarations = 4; links = 2 }
+
+abbrev A : Port
+A = port 1 0
+
+abbrev B : Port
+B = port 2 0
+
+abbrev C : Port
+C = port 3 0
+
+abbrev tooMany : PortList
+tooMany = record { ports = []; count = suc listLimit }
+
+abbrev pub orders : List Row
+orders =
+    calls (Command.insert Parent.None noPorts (only P)) (Reply.issued 0) ∷
+    -- list before parent, parent before conflict, conflict before sum
+    refuses (Command.insert (Parent.Of 9) tooMany noPorts) Error.Capacity ∷
+    refuses (Command.insert (Parent.Of 9) noPorts (only P)) Error.Unknown ∷
+    refuses (Command.insert Parent.None noPorts (portList (A ∷ B ∷ C ∷ P ∷ []))) Error.Conflict ∷
+    calls (Command.insert Parent.None (only P) noPorts) (Reply.issued 1) ∷
+    calls (Command.insert (Parent.Of 0) noPorts noPorts) (Reply.issued 2) ∷
+    -- identities before parent
+    refuses (Command.insert (Parent.Of 9) noPorts noPorts) Error.Capacity ∷
+    -- configure: list before identity, sum before repeat
+    refuses (Command.configurePendingDependencies 9 tooMany) Error.Capacity ∷
+    refuses (Command.configurePendingDependencies 2 (portList (A ∷ A ∷ B ∷ []))) Error.Capacity ∷
+    calls (Command.begin 0) Reply.done ∷
+    calls (Command.finish 0) Reply.done ∷
+    calls (Command.begin 1) Reply.done ∷
+    calls (Command.finish 1) Reply.done ∷
+    -- phase before sum, links, children, target
+    refuses (Command.configurePendingDependencies 1 (portList (A ∷ A ∷ B ∷ []))) Error.InvalidState ∷
+    refuses (Command.beginCleanup 0) Error.InvalidState ∷
+    refuses (Command.remove 0) Error.InvalidState ∷
+    refuses (Command.leaveIfChanged 2) Error.InvalidState ∷
+    calls (Command.leave 0) Reply.done ∷
+    refuses (Command.finish 1) Error.InvalidState ∷
+    -- begin: phase before retired; declare and configure: retired before phase
+    calls (Command.retire 1) Reply.done ∷
+    refuses (Command.begin 1) Error.InvalidState ∷
+    refuses (Command.configurePendingDependencies 1 noPorts) Error.Retired ∷
+    calls (Command.retire 0) Reply.done ∷
+    refuses (Command.declareProvision 0 A) Error.Retired ∷
+    -- begin: retired before target
+    calls (Command.leave 1) Reply.done ∷
+    calls (Command.beginCleanup 1) Reply.done ∷
+    calls (Command.finishCleanup 1) Reply.done ∷
+    refuses (Command.begin 1) Error.Retired ∷
+    -- declare at a full table: conflict before space, an own port again done
+    calls (Command.begin 2) Reply.done ∷
+    calls (Command.declareProvision 2 A) Reply.done ∷
+    calls (Command.declareProvision 2 B) Reply.done ∷
+    refuses (Command.declareProvision 2 P) Error.Conflict ∷
+    calls (Command.declareProvision 2 A) Reply.done ∷
+    refuses (Command.declareProvision 2 C) Error.Capacity ∷
+    -- declare: phase before conflict
+    calls (Command.leave 2) Reply.done ∷
+    refuses (Command.declareProvision 2 P) Error.InvalidState ∷ []
+
+abbrev pub OrdersHold : Type 0
+OrdersHold = play tiny (emptyKernel tiny) orders ≡ map (λ r. r .shows) orders

@@ -1,0 +1,24 @@
+-- update_node: not public. It writes one node anew if the tables allow it, and keeps soundness without the last point.
+use mathlib.Core.Bool.{Bool, _&&_, _||_, not}
+use mathlib.Core.List.{List, [], _∷_}
+use Prim.Native.Nat.{ℕ}
+use lib.Dec.{eqb}
+use Rattle.model.specs.declared.Error.{Error}
+use Rattle.model.specs.declared.Link.{Link}
+use Rattle.model.specs.declared.Node.{Node}
+use Rattle.model.specs.Lists.{any}
+use Rattle.model.specs.Records.{isChildOf, isConsistent, isInactive}
+use Rattle.model.specs.Soundness.{parentOk}
+use Rattle.model.specs.Tables.{Tables, present}
+
+-- absent or Inactive: not to be the consumer of a live link
+abbrev pub idle : Node → Bool
+idle n = not (n .present) || isInactive (n .phase)
+
+-- a live link that this node, written for this identity, would leave without a consumer or a provider
+unfoldable pub blocks : ℕ → Node → Link → Bool
+blocks id n l = l .live && (eqb (l .consumer) id && idle n || eqb (l .binding .provider) id && (idle n || n .restoring))
+
+-- 1 not present, 2 inconsistent new node, 1 parent, 8 a present child of a node that goes, 7 a live link in the way
+abbrev pub updateTests : Tables → ℕ → Node → List (Bool × Error)
+updateTests T id n = (not (present (T .nodes) id), Error.Unknown) ∷ (not (isConsistent n), Error.InvalidState) ∷ (n .present && not (parentOk (T .nodes) id (n .parent)), Error.Unknown) ∷ (not (n .present) && any (isChildOf id) (T .nodes), Error.Children) ∷ (any (blocks id n) (T .links), Error.Relied) ∷ []
