@@ -2,6 +2,7 @@ pub mod Sizes
 pub mod Lists
 pub mod Records
 pub mod Refusals
+pub mod Answers
 pub mod Tables
 pub mod Soundness
 pub mod Points

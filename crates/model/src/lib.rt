@@ -38,6 +38,7 @@ ghost use Rattle.model.specs.Records.{
   isProviding,
 };
 ghost use Rattle.model.specs.Refusals.{number};
+ghost use Rattle.model.specs.Answers.{answerNumber, insertAnswerNumber};
 
 pub enum Phase {
     Inactive,
@@ -522,4 +523,24 @@ pub fn is_providing(node: Node) -> bool
     let phase = node.phase;
     let active = is_active(phase);
     node.present & active
+}
+
+// 0 for done, else the refusal's number.
+pub fn answer_number(answer: Answer) -> u8
+    ensures { λ r. ⌜ r ≡ answerNumber answer ⌝ }
+{
+    match answer {
+        Answer::Done => 0,
+        Answer::Refused(error) => error_number(error),
+    }
+}
+
+// 0 for done, else the refusal's number.
+pub fn insert_answer_number(answer: InsertAnswer) -> u8
+    ensures { λ r. ⌜ r ≡ insertAnswerNumber answer ⌝ }
+{
+    match answer {
+        InsertAnswer::Done(_) => 0,
+        InsertAnswer::Refused(error) => error_number(error),
+    }
 }
