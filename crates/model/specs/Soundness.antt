@@ -16,8 +16,8 @@ use Rattle.model.specs.Tables.{Tables, installed, present, serving}
 
 -- ---- 1: every declaration's owner is below the node count
 
-unfoldable pub hasOwner : List Node → Declaration → Bool
-hasOwner ns d = ltb (d .owner) (length ns)
+unfoldable pub hasOwner : ℕ → Declaration → Bool
+hasOwner count d = ltb (d .owner) count
 
 -- ---- 2: two provisions of one port by present owners have the same owner
 
@@ -76,7 +76,7 @@ isCovered installs ls d = conj (needTests installs d) ⇒ any (linksTo (d .owner
 
 -- the first five points, as lib.rs groups them
 abbrev pub safetyTests : Tables → List Bool
-safetyTests T = let ns = T .nodes in let ds = T .declarations in let ls = T .links in all (hasOwner ns) ds ∷ all (λ d. all (sameOwner (present ns) d) ds) ds ∷ allAt (nodeOk ns) 0 ns ∷ all (linkOk (installed ns) (serving ns) ds) ls ∷ ordered ls ∷ []
+safetyTests T = let ns = T .nodes in let ds = T .declarations in let ls = T .links in all (hasOwner (length ns)) ds ∷ all (λ d. all (sameOwner (present ns) d) ds) ds ∷ allAt (nodeOk ns) 0 ns ∷ all (linkOk (installed ns) (serving ns) ds) ls ∷ ordered ls ∷ []
 
 unfoldable pub safetyWf : Tables → Bool
 safetyWf T = conj (safetyTests T)

@@ -19,7 +19,6 @@ use Rattle.model.proofs.Laws.Booleans.{Each, and-i, and-l, and-r, cases
 use Rattle.model.proofs.Laws.Lists.{all-in, allAt-at, any-in, at-allAt, in-all, in-any}
 use Rattle.model.specs.Lists.{all, allAt, any, conj}
 use Rattle.model.specs.Records.{blankNode, consistencyTests, dependency, isConsistent, isInactive, isUnloading, portOf, provision, samePort}
-use Rattle.model.specs.Samples.{port}
 use Rattle.model.specs.Sizes.{Sizes}
 use Rattle.model.specs.Soundness.{coverage, declares, fits, hasOwner, isCovered, isDeclaration, linkOk, linkTests, linksTo, needTests, nodeOk, ordered, parentOk, rivalTests, safetyTests, safetyWf, sameOwner, sizeTests, sound, wf}
 use Rattle.model.specs.Tables.{Tables, installed, nodeAt, notInactive, present, serving}
@@ -191,7 +190,7 @@ unfolding safetyWf hasOwner sameOwner
 safe-of T h =
     let e : Each (safetyTests T) = each (safetyTests T) h in
     record {
-      owners = λ d m. ltb-true _ _ (all-in (hasOwner (T .nodes)) m (e .0));
+      owners = λ d m. ltb-true _ _ (all-in (hasOwner (length (T .nodes))) m (e .0));
       unique = λ d f m k p q a b r. eqb-true (d .owner) (f .owner) (imp-e (conj (rivalTests (present (T .nodes)) d f)) _ (all-in (sameOwner (present (T .nodes)) d) k (all-in (λ d. all (sameOwner (present (T .nodes)) d) (T .declarations)) m (e .1 .0))) (of-each (rivalTests (present (T .nodes)) d f) (p, (q, (a, (b, (rw r (port-same (f .port)), tt)))))));
       nodes = nodes-of (T .nodes) (e .1 .1 .0);
       live = λ l m v. live-of (T .nodes) (T .declarations) l (all-in (linkOk (installed (T .nodes)) (serving (T .nodes)) (T .declarations)) m (e .1 .1 .1 .0)) v;
