@@ -12,3 +12,4 @@ pub mod Committed
 pub mod Sums
 pub mod Arrays
 pub mod Blanks
+pub mod Live

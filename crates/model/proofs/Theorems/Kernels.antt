@@ -9,14 +9,14 @@ use lib.Dec.{eqb}
 use Rattle.model.specs.declared.Binding.{Binding}
 use Rattle.model.specs.declared.Error.{Error}
 use Rattle.model.proofs.Laws.Booleans.{and-l, and-r, clash}
-use Rattle.model.proofs.Laws.Refusals.{step-cases}
+use Rattle.model.proofs.Laws.Refusals.{Passed, of-passed, step-cases}
 use Rattle.model.proofs.Theorems.Commands.{empty-sound, run-sound, step-sound}
 use Rattle.model.proofs.Theorems.Iteration.{iteration-rule}
-use Rattle.model.proofs.Theorems.Layouts.{layout-sound, read-back}
-use Rattle.model.specs.Commands.{Command, report, run, runFrom, step, tests}
+use Rattle.model.proofs.Theorems.Layouts.{laid-out, layout-sound, read-back}
+use Rattle.model.specs.Commands.{Command, report, result, run, runFrom, settle, step, tests}
 use Rattle.model.specs.Iteration.{RuleAt, begins, last, lastFrom, noted}
 use Rattle.model.specs.Kernels.{Commanded, KernelIterationRule, KernelRuleAt, asked, commanded, kernelFrom, kernelLastFrom, reached, targetOf}
-use Rattle.model.specs.Layouts.{layOut, soundKernel}
+use Rattle.model.specs.Layouts.{Layout, Sized, layOut, soundKernel, tablesOf}
 use Rattle.model.specs.Lifecycle.{checkIteration}
 use Rattle.model.specs.Lists.{all}
 use Rattle.model.specs.Observers.{phase}
@@ -25,6 +25,28 @@ use Rattle.model.specs.Resolution.{committed, target}
 use Rattle.model.specs.Sizes.{Sizes}
 use Rattle.model.specs.Soundness.{sound}
 use Rattle.model.specs.Tables.{Tables, empty}
+
+-- what a sound kernel answers, and an unsound one
+pub asked-sound : {A : Type 0} (S : Sizes) (k : Layout) (u : A) (f : Tables → A) → soundKernel S k ≡ true → asked S k u f ≡ f (tablesOf k)
+unfolding asked
+asked-sound S k u f h = rw h
+
+pub asked-unsound : {A : Type 0} (S : Sizes) (k : Layout) (u : A) (f : Tables → A) → soundKernel S k ≡ false → asked S k u f ≡ u
+unfolding asked
+asked-unsound S k u f h = rw h
+
+pub commanded-unsound : (S : Sizes) (k : Layout) (c : Command) → soundKernel S k ≡ false → commanded S k c ≡ record { kernel = k; reply = Reply.refused Error.Damaged }
+unfolding commanded
+commanded-unsound S k c h = rw h
+
+-- a refusal hands the kernel back unchanged
+pub commanded-refused : (S : Sizes) (k : Layout) (c : Command) (e : Error) → Sized S k → soundKernel S k ≡ true → first (tests S (tablesOf k) c) ≡ some e → commanded S k c ≡ record { kernel = k; reply = Reply.refused e }
+unfolding commanded step settle
+commanded-refused S k c e a h f = rw (h, f, laid-out S k a h)
+
+pub commanded-accepted : (S : Sizes) (k : Layout) (c : Command) → soundKernel S k ≡ true → Passed (tests S (tablesOf k) c) → commanded S k c ≡ record { kernel = layOut S (result (tablesOf k) c); reply = report (tablesOf k) c }
+unfolding commanded step settle
+commanded-accepted S k c h p = rw (h, of-passed (tests S (tablesOf k) c) p)
 
 module _ (S : Sizes) (T : Tables) (h : sound S T ≡ true) where
   -- on a laid out kernel: what is asked, and what is commanded

@@ -1,14 +1,15 @@
 -- A sound kernel is its tables laid out, and tables come back from their layout.
 -- what the tests of a layout say
-use mathlib.Core.Path.{_≡_, refl}
+use mathlib.Core.Path.{_∙_, _≡_, ap, refl, sym}
 use mathlib.Core.Bool.{true}
 use mathlib.Core.List.{List}
 use Prim.Native.Nat.{_≤_, ℕ}
 use native.Mathlib.Omega.{arith}
-use lib.ListN.{drop, length, take}
+use lib.ListN.{drop, getD, length, take}
 use lib.Seq.{length-take-le}
 use borrow.Author.Tests.{le-leb, leb-true}
-use Rattle.model.proofs.Laws.Arrays.{length-padded, rest-blank, take-padded, whole-array}
+use Rattle.model.specs.declared.Node.{Node}
+use Rattle.model.proofs.Laws.Arrays.{getD-padded, length-padded, rest-blank, take-padded, whole-array}
 use Rattle.model.proofs.Laws.Blanks.{blank-declaration, blank-link, blank-node}
 use Rattle.model.proofs.Laws.Booleans.{Each, and-i, and-l, and-r, each, of-each}
 use Rattle.model.proofs.Laws.Facts.{Fits, fits-of, of-fits}
@@ -17,7 +18,7 @@ use Rattle.model.specs.Lists.{all, conj, padded}
 use Rattle.model.specs.Records.{blankDeclaration, blankLink, blankNode, isBlankDeclaration, isBlankLink, isBlankNode}
 use Rattle.model.specs.Sizes.{Sizes}
 use Rattle.model.specs.Soundness.{fits, sound, wf}
-use Rattle.model.specs.Tables.{Tables}
+use Rattle.model.specs.Tables.{Tables, nodeAt}
 
 pub record Laid (S : Sizes) (k : Layout) : Type 0 where
   pub nodes : k .nodeCount ≤ S .identities
@@ -69,6 +70,11 @@ module _ (S : Sizes) (k : Layout) (a : Sized S k) (h : soundKernel S k ≡ true)
       let q : padded (S .declarations) blankDeclaration (take (k .declarationCount) (k .declarations)) ≡ k .declarations = whole-array isBlankDeclaration blankDeclaration blank-declaration _ _ (k .declarations) (a .declarations) (laid .declarations) (laid .blank-declarations) in
       let r : padded (S .links) blankLink (take (k .linkCount) (k .links)) ≡ k .links = whole-array isBlankLink blankLink blank-link _ _ (k .links) (a .links) (laid .links) (laid .blank-links) in
       λ i. record { nodes = p i; nodeCount = node-count i; declarations = q i; declarationCount = declaration-count i; links = r i; linkCount = link-count i }
+
+  -- an identity's node is what the array holds, and blank past it
+  pub node-in-array : (id : ℕ) → nodeAt ((tablesOf k) .nodes) id ≡ getD (k .nodes) id blankNode
+  unfolding nodeAt tablesOf
+  node-in-array id = sym (getD-padded (S .identities) blankNode (take (k .nodeCount) (k .nodes)) id) ∙ ap (λ (ns : List Node). getD ns id blankNode) (whole-array isBlankNode blankNode blank-node _ _ (k .nodes) (a .nodes) (laid .nodes) (laid .blank-nodes))
 
 -- tables come back from their layout
 pub read-back : (S : Sizes) (T : Tables) → tablesOf (layOut S T) ≡ T

@@ -1,27 +1,26 @@
 -- update_node keeps soundness without the last point.
 -- a live link that does not block the new node's consumer, or its provider
 use mathlib.Core.Path.{_≡_, refl}
-use mathlib.Core.Bool.{_&&_, _||_, false, not, true}
+use mathlib.Core.Bool.{Bool, _&&_, _||_, false, not, true}
+use mathlib.Core.List.{List, List·Memᴰ, List·Memᴰ·head, List·Memᴰ·tail, [], _∷_}
 use mathlib.Core.Option.{Option, none, some}
 use mathlib.Core.Logic.{_⊎_, inl, inr}
 use Prim.Native.Nat.{ℕ}
 use lib.Dec.{eqb}
-use borrow.Author.Tests.{eq-eqb}
-use contract.Running.{tables}
+use borrow.Author.Tests.{eq-eqb, eqb-true}
 use Rattle.model.specs.declared.Error.{Error}
 use Rattle.model.specs.declared.Link.{Link}
 use Rattle.model.specs.declared.Node.{Node}
 use Rattle.model.specs.declared.Parent.{Parent}
-use Rattle.model.proofs.Laws.Booleans.{Each, and-i, cases, clash, each, f-not, imp-e, not-f, or-f-l, or-f-r}
+use Rattle.model.proofs.Laws.Booleans.{Each, and-i, cases, clash, each, f-not, imp-e, imp-i, not-f, not-t, of-each, or-f-l, or-f-r}
 use Rattle.model.proofs.Laws.Facts.{fits-of, of-fits, of-safe, safe-of}
 use Rattle.model.proofs.Laws.Lists.{none-in}
 use Rattle.model.proofs.Laws.Nodes.{node-in, present-lt}
-use Rattle.model.proofs.Laws.Refusals.{Passed, passed}
+use Rattle.model.proofs.Laws.Refusals.{Passed, of-passed, passed}
 use Rattle.model.proofs.Laws.Update.{Update, fits-update, safe-update}
 use Rattle.model.specs.Commands.{settle, updateNode}
 use Rattle.model.specs.Lists.{any}
-use Rattle.model.specs.Observers.{children}
-use Rattle.model.specs.Records.{consistencyTests, hasParent, isChildOf, isInactive, isUnloading}
+use Rattle.model.specs.Records.{consistencyTests, hasParent, isChildOf, isConsistent, isInactive, isUnloading}
 use Rattle.model.specs.Refusals.{Reply, first}
 use Rattle.model.specs.Sizes.{Sizes}
 use Rattle.model.specs.Soundness.{fits, safetyWf}
@@ -81,3 +80,33 @@ updateNode-fits S T id n h = go (first (updateTests T id n))
     go : (o : Option Error) → fits S ((settle o T (record { tables = withNode T id n; reply = Reply.done })) .tables) ≡ true
     go none = of-fits S (withNode T id n) (fits-update S T id n (fits-of S T h))
     go (some x) = h
+
+-- ---- what the lifecycle commands get from it on sound tables
+
+-- a live link of the tables does not block a node that may be written
+unblocked : (T : Tables) (id : ℕ) (n : Node) → Update T id n → (l : Link) → List·Memᴰ l (T .links) → blocks id n l ≡ false
+unfolding blocks
+unblocked T id n u l m = go (l .live) refl (eqb (l .consumer) id) refl (eqb (l .binding .provider) id) refl
+  where
+    ready : (n .present ≡ true) × (not (isInactive (n .phase)) ≡ true) → idle n ≡ false
+    ready (a, b) = rw (a, not-t (isInactive (n .phase)) b)
+
+    go : (v : Bool) → l .live ≡ v → (c : Bool) → eqb (l .consumer) id ≡ c → (p : Bool) → eqb (l .binding .provider) id ≡ p → v && (c && idle n || p && (idle n || n .restoring)) ≡ false
+    go false e c f p g = refl
+    go true e false f false g = refl
+    go true e true f false g = rw (ready (u .consumes l m e (eqb-true _ _ f)))
+    go true e false f true g = let (a, b, r) = u .provides l m e (eqb-true _ _ g) in rw (ready (a, b), r)
+    go true e true f true g = let (a, b, r) = u .provides l m e (eqb-true _ _ g) in rw (ready (a, b), r)
+
+none-any : {A : Type 0} (p : A → Bool) (xs : List A) → ((x : A) → List·Memᴰ x xs → p x ≡ false) → any p xs ≡ false
+unfolding any
+none-any p [] f = refl
+none-any p (x ∷ xs) f = rw (f x (List·Memᴰ·head refl), none-any p xs (λ y m. f y (List·Memᴰ·tail m)))
+
+-- the tests before those of children and links
+consistent-of : (T : Tables) (id : ℕ) (n : Node) → Update T id n → (n .present ≡ false → n .restoring ≡ false) → isConsistent n ≡ true
+consistent-of T id n u k = of-each (consistencyTests n) (imp-i (not (n .present)) (isInactive (n .phase)) (λ a. u .absent-inactive (not-t _ a)), (imp-i (not (n .present)) (not (n .restoring)) (λ a. f-not _ (k (not-t _ a))), (imp-i (n .restoring) (n .present) (u .restoring-present), (imp-i (n .restoring) (isUnloading (n .phase)) (u .restoring-unloading), tt))))
+
+-- a present node that may be written passes every test
+pub update-accepts : (T : Tables) (id : ℕ) (n : Node) → Update T id n → n .present ≡ true → first (updateTests T id n) ≡ none
+update-accepts T id n u p = of-passed (updateTests T id n) (rw (u .there), (rw (consistent-of T id n u (λ a. clash _ p a)), (rw (p, u .parent-ok p), (rw p, (none-any (blocks id n) (T .links) (unblocked T id n u), tt)))))
