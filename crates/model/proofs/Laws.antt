@@ -13,3 +13,4 @@ pub mod Sums
 pub mod Arrays
 pub mod Blanks
 pub mod Live
+pub mod Entry

@@ -19,7 +19,7 @@ module _ {A : Type 0} where
   unfolding padded
   take-padded n d xs = take-append-seam xs (replicate (n - length xs) d)
 
-  -- a read isDependencyOf no bindPorts: past the table it is blank, and so is the read past a list
+  -- a read needs no bound: past the table it is blank, and so is the read past a list
   pub getD-padded : (n : ℕ) (d : A) (xs : List A) (i : ℕ) → getD (padded n d xs) i d ≡ getD xs i d
   unfolding padded
   getD-padded n d [] i = go (decLt i n)

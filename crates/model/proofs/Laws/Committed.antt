@@ -57,7 +57,7 @@ pub committed-append : (ls ms : List Link) (id : ℕ) → committed (ls ++ ms) i
 unfolding committed
 committed-append ls ms id = ap (map (λ l. l .binding)) (keep-append (isLiveLinkOf id) ls ms) ∙ map-append (λ (l : Link). l .binding) (keep (isLiveLinkOf id) ls) (keep (isLiveLinkOf id) ms)
 
--- a component that is not notInactive isLiveLinkOf nothing
+-- an Inactive component holds no live link
 pub committed-idle : (T : Tables) (id : ℕ) → Safe T → notInactive (T .nodes) id ≡ false → committed (T .links) id ≡ []
 unfolding committed
 committed-idle T id k h = ap (map (λ l. l .binding)) (keep-none (isLiveLinkOf id) (T .links) (λ l m. go l m (cases (isLiveLinkOf id l))))

@@ -32,7 +32,7 @@ pub at-other : (ns : List Node) (id i : ℕ) (n : Node) → (i ≡ id → ⊥) �
 unfolding nodeAt
 at-other ns id i n d = getD-set-other ns id i n blankNode d
 
--- a family that isLiveLinkOf of the new node and of every other isLiveLinkOf of all
+-- a family that holds of the new node and of every other holds of all
 pub at-set : (P : ℕ → Node → Type 0) (ns : List Node) (id : ℕ) (n : Node) → id < length ns → P id n → ((i : ℕ) → P i (nodeAt ns i)) → (i : ℕ) → P i (nodeAt (set ns id n) i)
 at-set P ns id n l p f i = go (ℕ-discrete i id)
   where

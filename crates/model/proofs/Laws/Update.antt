@@ -87,7 +87,7 @@ module _ (T : Tables) (id : ℕ) (n : Node) (k : Safe T) (u : Update T id n) whe
     order = k .order;
   }
 
-  -- no component becomes notInactive
+  -- no component becomes installed
   pub covered-update : Covered T → (not (isInactive (n .phase)) ≡ true → notInactive (T .nodes) id ≡ true) → Covered (withNode T id n)
   covered-update c f d m p a b = c d m p (was _ a) (at-set (λ i m. not (isInactive (m .phase)) ≡ true → notInactive (T .nodes) i ≡ true) (T .nodes) id n lt f (λ i h. h) (d .owner) b)
 

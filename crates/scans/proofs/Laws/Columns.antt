@@ -1,0 +1,49 @@
+-- Columns: the row at a place, the rows of a table's own fields, a column filled by a loop.
+use mathlib.Core.Path.{_∙_, _≡_, ap, refl, sym}
+use mathlib.Core.Bool.{Bool, true}
+use mathlib.Core.List.{List, _∷_}
+use Prim.Native.Nat.{_+_, _<_, _≤_, suc, zero, ℕ}
+use native.Mathlib.Omega.{arith}
+use native.Mathlib.Nat.{add-zero, zero-add}
+use lib.ListN.{getD, length, take}
+use lib.Seq.{ext-getD, getD-take, length-take-le, slice}
+use Rattle.model.proofs.Laws.Lists.{all-in, place-in}
+use Rattle.model.specs.Lists.{all}
+use Rattle.scans.proofs.Laws.Scan.{part-next, take-most}
+use Rattle.scans.specs.Answers.{AtMost}
+use Rattle.scans.specs.Columns.{rowsFrom}
+
+pub length-rows : {A : Type 0} (i n : ℕ) (f : ℕ → A) → length (rowsFrom i n f) ≡ n
+unfolding rowsFrom
+length-rows i zero f = refl
+length-rows i (suc n) f = ap suc (length-rows (suc i) n f)
+
+rows-at : {A : Type 0} (i n k : ℕ) (f : ℕ → A) (d : A) → k < n → getD (rowsFrom i n f) k d ≡ f (i + k)
+unfolding rowsFrom
+rows-at i zero k f d l = absurd (omega arith)
+rows-at i (suc n) zero f d l = rw (add-zero i)
+rows-at i (suc n) (suc k) f d l = let e : i + suc k ≡ suc i + k = omega arith in rw e (rows-at (suc i) n k f d (omega arith))
+
+-- the row at a place
+pub row-at : {A : Type 0} (n k : ℕ) (f : ℕ → A) (d : A) → k < n → getD (rowsFrom 0 n f) k d ≡ f k
+row-at n k f d l = rows-at 0 n k f d l ∙ ap f (zero-add k)
+
+-- what is left of the rows, up to place end
+pub rows-next : {A : Type 0} (n i end : ℕ) (f : ℕ → A) → i < end → end ≤ n → slice i end (rowsFrom 0 n f) ≡ f i ∷ slice (i + 1) end (rowsFrom 0 n f)
+rows-next {A} n i end f l m = part-next (f 0) i end (rowsFrom 0 n f) l (rw (length-rows 0 n f) m) ∙ ap (λ (x : A). x ∷ slice (i + 1) end (rowsFrom 0 n f)) (row-at n i f (f 0) (omega arith))
+
+-- a count that stops at the size takes as many rows as the count
+pub rows-most : {A : Type 0} (count n end : ℕ) (f : ℕ → A) → AtMost count n end → take end (rowsFrom 0 n f) ≡ take count (rowsFrom 0 n f)
+rows-most count n end f m = take-most count n end (rowsFrom 0 n f) (length-rows 0 n f) m
+
+-- rows that agree with a list at each place are that list
+pub rows-are : {A : Type 0} (xs : List A) (n : ℕ) (f : ℕ → A) (d : A) → length xs ≡ n → ((k : ℕ) → k < n → f k ≡ getD xs k d) → rowsFrom 0 n f ≡ xs
+rows-are xs n f d e h = ext-getD d (rowsFrom 0 n f) xs (length-rows 0 n f ∙ sym e) (λ k l. let m : k < n = rw (length-rows 0 n f) at l in row-at n k f d m ∙ h k m)
+
+-- what every row up to a count passes, each row before place end passes
+pub row-passes : {A : Type 0} (p : A → Bool) (count n end k : ℕ) (f : ℕ → A) → AtMost count n end → k < end → all p (take count (rowsFrom 0 n f)) ≡ true → p (f k) ≡ true
+row-passes p count n end k f m l h =
+    let rows = rowsFrom 0 n f in
+    let long : length (take end rows) ≡ end = length-take-le end rows (omega (arith, length-rows 0 n f, m .within)) in
+    let there : p (getD (take end rows) k (f 0)) ≡ true = all-in p (place-in (take end rows) k (f 0) (omega arith)) (rw (← rows-most count n end f m) at h) in
+    rw (getD-take end rows k (f 0) l, row-at n k f (f 0) (omega (arith, m .within))) at there
