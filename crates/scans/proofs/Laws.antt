@@ -6,3 +6,4 @@ pub mod Implications
 pub mod Filled
 pub mod Resolving
 pub mod Marking
+pub mod Distinct

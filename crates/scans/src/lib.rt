@@ -1,6 +1,6 @@
-// The loops over a kernel's tables. A table of records comes by value, once a call; what a loop calls is lent columns or gets single records.
+// The loops that read a kernel's tables. A table of records comes by value, once a call; what a loop calls is lent columns or gets single records.
 ghost use mathlib.Core.Path.{_≡_};
-ghost use mathlib.Core.Bool.{Bool, true, false};
+ghost use mathlib.Core.Bool.{Bool, true, false, not, _&&_};
 ghost use mathlib.Core.List.{List, map};
 ghost use mathlib.Core.Option.{none};
 ghost use Prim.Native.Nat.{ℕ, _≤_};
@@ -9,6 +9,9 @@ ghost use Rattle.model.specs.Lists.{all, any, allAt, keep, places, padded};
 ghost use Rattle.model.specs.Records.{isBlankNode, isBlankDeclaration, isBlankLink, isChildOf, isProviding};
 ghost use Rattle.model.specs.Soundness.{nodeOk, hasOwner, sameOwner, isDeclaration, linkOk, ordered, linksTo, isCovered};
 ghost use Rattle.model.specs.Answers.{resolution};
+ghost use Rattle.model.specs.UpdateNode.{blocks};
+ghost use Rattle.model.specs.Interface.{listed, distinct, takenBy, reliesOn};
+ghost use Rattle.model.specs.Lifecycle.{relies};
 ghost use Rattle.model.specs.Resolution.{resolve, dependencyPorts, bindPorts, committed};
 ghost use Rattle.scans.specs.Columns.{declarationsOf, linksOf, flag, endsBelow};
 ghost use Rattle.scans.specs.Answers.{flagsOf, identities, targetBindings, committedBindings, AtMost};
@@ -18,6 +21,7 @@ use model::Link;
 use model::Node;
 use model::Parent;
 use model::Port;
+use model::PortList;
 use model::Resolution;
 
 // A yes/no for each identity.
@@ -644,4 +648,171 @@ pub fn target_table(
         &mut provides,
     );
     target_in(&owner, &key, &realm, &provides, &providing, count, id)
+}
+
+// Whether a live link below the count has this provider.
+pub fn relies_in(links: [Link; 512], count: usize, id: usize) -> bool
+    ensures { λ r. ⌜ r ≡ any (relies id) (take count links) ⌝ }
+{
+    let end = at_most(count, 512);
+    let mut i = 0;
+    while i < end {
+        let l = links[i];
+        let b = l.binding;
+        if l.live & (b.provider == id) {
+            return true;
+        }
+        i += 1;
+    }
+    false
+}
+
+// Whether a live link below the count has this provider and port.
+pub fn relies_on(links: [Link; 512], count: usize, id: usize, port: Port) -> bool
+    ensures { λ r. ⌜ r ≡ any (reliesOn id port) (take count links) ⌝ }
+{
+    let end = at_most(count, 512);
+    let mut i = 0;
+    while i < end {
+        let l = links[i];
+        let b = l.binding;
+        let same = (b.key == port.key) & (b.realm == port.realm);
+        if l.live & (b.provider == id) & same {
+            return true;
+        }
+        i += 1;
+    }
+    false
+}
+
+// Whether a present node below the count has this parent.
+pub fn has_child(nodes: [Node; 64], count: usize, id: usize) -> bool
+    ensures { λ r. ⌜ r ≡ any (isChildOf id) (take count nodes) ⌝ }
+{
+    let end = at_most(count, 64);
+    let mut i = 0;
+    while i < end {
+        let node = nodes[i];
+        if model::is_child_of(id, node) {
+            return true;
+        }
+        i += 1;
+    }
+    false
+}
+
+// Whether a live link below the count would lose its consumer or its provider by this node, written for this identity.
+pub fn blocked(links: [Link; 512], count: usize, id: usize, node: Node) -> bool
+    ensures { λ r. ⌜ r ≡ any (blocks id node) (take count links) ⌝ }
+{
+    let end = at_most(count, 512);
+    let phase = node.phase;
+    let inactive = model::is_inactive(phase);
+    let idle = !node.present | inactive;
+    let mut i = 0;
+    while i < end {
+        let l = links[i];
+        let b = l.binding;
+        let consumes = (l.consumer == id) & idle;
+        let serves = (b.provider == id) & (idle | node.restoring);
+        if l.live & (consumes | serves) {
+            return true;
+        }
+        i += 1;
+    }
+    false
+}
+
+// Whether a present owner below the count provides the port; present tells who is.
+pub fn taken_in(
+    declarations: [Declaration; 256],
+    count: usize,
+    present: [bool; 64],
+    port: Port,
+) -> bool
+    ensures { λ r. ⌜ r ≡ any (takenBy (flag 64 present) port) (take count declarations) ⌝ }
+{
+    let end = at_most(count, 256);
+    let mut i = 0;
+    while i < end {
+        let d = declarations[i];
+        let p = d.port;
+        let o = d.owner;
+        let same = model::same_port(p, port);
+        let here = flag_at(&present, o);
+        if d.provides & same & here {
+            return true;
+        }
+        i += 1;
+    }
+    false
+}
+
+// Whether a list has no port twice.
+pub fn distinct_ports(list: PortList) -> bool
+    ensures { λ r. ⌜ r ≡ distinct (listed list) ⌝ }
+{
+    let count = list.count;
+    let ports = list.ports;
+    let end = at_most(count, 32);
+    let mut ok = true;
+    let mut i = 0;
+    'scan: while i < end {
+        let p = ports[i];
+        let mut j = i + 1;
+        while j < end {
+            let q = ports[j];
+            if model::same_port(p, q) {
+                ok = false;
+                break 'scan;
+            }
+            j += 1;
+        }
+        i += 1;
+    }
+    ok
+}
+
+// Whether a list of provisions has no port twice and no port that a present owner provides: the scan ends at the first repeat or clash.
+pub fn check_provisions(
+    list: PortList,
+    declarations: [Declaration; 256],
+    declared: usize,
+    present: [bool; 64],
+) -> bool
+    ensures { λ r. ⌜ r ≡ distinct (listed list) && not (any (λ p. any (takenBy (flag 64 present) p) (take declared declarations)) (listed list)) ⌝ }
+{
+    let count = list.count;
+    let ports = list.ports;
+    let end = at_most(count, 32);
+    let table = at_most(declared, 256);
+    let mut ok = true;
+    let mut i = 0;
+    'scan: while i < end {
+        let p = ports[i];
+        let mut j = i + 1;
+        while j < end {
+            let q = ports[j];
+            if model::same_port(p, q) {
+                ok = false;
+                break 'scan;
+            }
+            j += 1;
+        }
+        let mut k = 0;
+        while k < table {
+            let d = declarations[k];
+            let q = d.port;
+            let o = d.owner;
+            let same = model::same_port(q, p);
+            let here = flag_at(&present, o);
+            if d.provides & same & here {
+                ok = false;
+                break 'scan;
+            }
+            k += 1;
+        }
+        i += 1;
+    }
+    ok
 }

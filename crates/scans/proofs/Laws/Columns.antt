@@ -2,13 +2,14 @@
 use mathlib.Core.Path.{_∙_, _≡_, ap, refl, sym}
 use mathlib.Core.Bool.{Bool, true}
 use mathlib.Core.List.{List, _∷_}
-use Prim.Native.Nat.{_+_, _<_, _≤_, suc, zero, ℕ}
+use Prim.Native.Nat.{_+_, _<_, _≤_, min, suc, zero, ℕ}
 use native.Mathlib.Omega.{arith}
-use native.Mathlib.Nat.{add-zero, zero-add}
-use lib.ListN.{getD, length, take}
+use native.Mathlib.Nat.{add-zero, min-le-left, min-le-right, zero-add}
+use lib.ListN.{getD, length, length-take, take}
 use lib.Seq.{ext-getD, getD-take, length-take-le, slice}
-use Rattle.model.proofs.Laws.Lists.{all-in, place-in}
+use Rattle.model.proofs.Laws.Lists.{all-in, in-all, in-at, place-in}
 use Rattle.model.specs.Lists.{all}
+use Rattle.model.specs.Points.{Among}
 use Rattle.scans.proofs.Laws.Scan.{part-next, take-most}
 use Rattle.scans.specs.Answers.{AtMost}
 use Rattle.scans.specs.Columns.{rowsFrom}
@@ -47,3 +48,15 @@ row-passes p count n end k f m l h =
     let long : length (take end rows) ≡ end = length-take-le end rows (omega (arith, length-rows 0 n f, m .within)) in
     let there : p (getD (take end rows) k (f 0)) ≡ true = all-in p (place-in (take end rows) k (f 0) (omega arith)) (rw (← rows-most count n end f m) at h) in
     rw (getD-take end rows k (f 0) l, row-at n k f (f 0) (omega (arith, m .within))) at there
+
+-- and what every row passes, each of them up to a count
+pub rows-pass : {A : Type 0} (p : A → Bool) (count n : ℕ) (f : ℕ → A) → ((k : ℕ) → k < count → k < n → p (f k) ≡ true) → all p (take count (rowsFrom 0 n f)) ≡ true
+rows-pass {A} p count n f h = in-all p (take count (rowsFrom 0 n f)) (λ x m. go x (in-at m))
+  where
+    go : (x : A) → Among (take count (rowsFrom 0 n f)) x → p x ≡ true
+    go x (k, t) =
+        let a : k < min count n = rw (length-take count (rowsFrom 0 n f), length-rows 0 n f) at (t .0) in
+        let b : k < count = omega (arith, min-le-left count n) in
+        let c : k < n = omega (arith, min-le-right count n) in
+        let g : f k ≡ x = sym (row-at n k f x c) ∙ sym (getD-take count (rowsFrom 0 n f) k x b) ∙ t .1 in
+        rw g at (h k b c)

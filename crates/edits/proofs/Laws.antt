@@ -1,0 +1,3 @@
+-- What the proofs of the edits cite.
+pub mod Kept
+pub mod Edit
