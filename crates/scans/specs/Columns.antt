@@ -18,7 +18,7 @@ abbrev pub declarationAt : List ℕ → List ℕ → List ℕ → List Bool → 
 declarationAt owner key realm provides i = record { owner = getD owner i 0; port = record { key = getD key i 0; realm = getD realm i 0 }; provides = getD provides i false }
 
 -- the first n declarations of four columns
-abbrev pub declarationsOf : ℕ → List ℕ → List ℕ → List ℕ → List Bool → List Declaration
+unfoldable pub declarationsOf : ℕ → List ℕ → List ℕ → List ℕ → List Bool → List Declaration
 declarationsOf n owner key realm provides = rowsFrom 0 n (declarationAt owner key realm provides)
 
 -- the live link at a place of four columns
@@ -26,7 +26,7 @@ abbrev pub linkAt : List ℕ → List ℕ → List ℕ → List ℕ → ℕ → 
 linkAt consumer key realm provider i = liveLink (getD consumer i 0) (record { key = getD key i 0; realm = getD realm i 0; provider = getD provider i 0 })
 
 -- the first n live links of four columns
-abbrev pub linksOf : ℕ → List ℕ → List ℕ → List ℕ → List ℕ → List Link
+unfoldable pub linksOf : ℕ → List ℕ → List ℕ → List ℕ → List ℕ → List Link
 linksOf n consumer key realm provider = rowsFrom 0 n (linkAt consumer key realm provider)
 
 -- the yes/no of an identity in a column of n; no past the last

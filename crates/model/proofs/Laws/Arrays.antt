@@ -1,14 +1,14 @@
 -- A table in an array: reads, stores, and the blanks behind it.
 use mathlib.Core.Path.{_∙_, _≡_, ap, refl, sym}
-use mathlib.Core.Bool.{Bool, true}
-use mathlib.Core.List.{List, [], _++_, _∷_}
+use mathlib.Core.Bool.{Bool, false, true}
+use mathlib.Core.List.{List, [], _++_, _∷_, map}
 use Prim.Native.Nat.{_+_, _-_, _<_, _≤_, suc, zero, ℕ}
 use native.Mathlib.Omega.{arith}
 use native.Mathlib.Decide.{decLt}
 use lib.ListN.{List·getD-eq-default, drop, getD, getD-replicate, length, length-append, length-drop, length-replicate, length-set, replicate, set, take, take-append-drop}
 use lib.Seq.{append-snoc, drop-append-seam, length-take-le, set-append-left, set-append-seam, take-append-seam}
 use Rattle.model.proofs.Laws.Booleans.{and-i, and-l, and-r}
-use Rattle.model.specs.Lists.{all, padded}
+use Rattle.model.specs.Lists.{all, padded, places}
 
 module _ {A : Type 0} where
   pub length-padded : (n : ℕ) (d : A) (xs : List A) → length xs ≤ n → length (padded n d xs) ≡ n
@@ -63,3 +63,21 @@ module _ {A : Type 0} where
   -- an array whose rest passes a test that only the blank passes
   pub whole-array : (same : A → Bool) (d : A) → ((x : A) → same x ≡ true → x ≡ d) → (n c : ℕ) (xs : List A) → length xs ≡ n → c ≤ n → all same (drop c xs) ≡ true → padded n d (take c xs) ≡ xs
   whole-array same d f n c xs e l h = padded-take n c d xs e l (blank-rest same d f (drop c xs) h ∙ ap (λ (m : ℕ). replicate m d) (length-drop c xs ∙ ap (λ (m : ℕ). m - c) e))
+
+-- ---- places
+
+pub places-map : {A : Type 0} (f : A → Bool) (i : ℕ) (xs : List A) → places (λ b. b) i (map f xs) ≡ places f i xs
+unfolding places
+places-map f i [] = refl
+places-map f i (x ∷ xs) = let ih : places (λ b. b) (suc i) (map f xs) ≡ places f (suc i) xs = places-map f (suc i) xs in rw ih
+
+places-none : {A : Type 0} (f : A → Bool) (d : A) → f d ≡ false → (i n : ℕ) → places f i (replicate n d) ≡ []
+unfolding places
+places-none f d e i zero = refl
+places-none f d e i (suc n) = rw e (places-none f d e (suc i) n)
+
+-- blanks that fail the test have no place
+pub places-padded : {A : Type 0} (f : A → Bool) (i n : ℕ) (d : A) → f d ≡ false → (xs : List A) → places f i (padded n d xs) ≡ places f i xs
+unfolding padded places
+places-padded f i n d e [] = places-none f d e i (n - 0)
+places-padded {A} f i n d e (x ∷ xs) = let g : n - suc (length xs) ≡ (n - 1) - length xs = omega arith in let ih : places f (suc i) (xs ++ replicate ((n - 1) - length xs) d) ≡ places f (suc i) xs = places-padded f (suc i) (n - 1) d e xs in rw (g, ih)

@@ -71,3 +71,7 @@ and-each b (c ∷ cs) h e = and-each (b && c) cs (and-i b c h (e .0)) (e .1)
 pub of-each : (bs : List Bool) → Each bs → conj bs ≡ true
 of-each [] h = refl
 of-each (b ∷ bs) h = and-each b bs (h .0) (h .1)
+
+pub both-or : (a b : Bool) → not a || b ≡ true → a && not b ≡ false
+both-or true b h = rw h
+both-or false b h = refl

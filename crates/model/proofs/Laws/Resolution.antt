@@ -1,6 +1,6 @@
 -- What resolve and target found, as facts.
 use mathlib.Core.Path.{_∙_, _≡_, ap, refl, sym}
-use mathlib.Core.Bool.{Bool, _&&_, false, not, true}
+use mathlib.Core.Bool.{Bool, _&&_, _||_, false, not, true}
 use mathlib.Core.List.{List, List·Memᴰ, List·Memᴰ·cases-cons, List·Memᴰ·head, List·Memᴰ·not-nil, List·Memᴰ·tail, Memᴰ·cast, [], _∷_, map}
 use mathlib.Core.Option.{Option, none, some}
 use mathlib.Core.Logic.{_⊎_, inl, inr}
@@ -11,13 +11,12 @@ use Rattle.model.specs.declared.Binding.{Binding}
 use Rattle.model.specs.declared.Declaration.{Declaration}
 use Rattle.model.specs.declared.Node.{Node}
 use Rattle.model.specs.declared.Port.{Port}
-use Rattle.model.proofs.Laws.Booleans.{and-l, and-r, cases, not-t}
+use Rattle.model.proofs.Laws.Booleans.{and-l, and-r, both-or, cases, not-f, not-t, or-f-l, or-f-r}
 use Rattle.model.proofs.Laws.Facts.{same-port}
 use Rattle.model.proofs.Laws.Lists.{in-keep, in-map, keep-in, map-in}
 use Rattle.model.specs.Lists.{keep}
 use Rattle.model.specs.Records.{bindingOf, dependency, isActive, portOf, provision, samePort}
 use Rattle.model.specs.Resolution.{bindPorts, dependencyPorts, isDependencyOf, joined, offers, resolve, target}
-use Rattle.model.specs.Samples.{port}
 use Rattle.model.specs.Tables.{Tables, nodeAt, present, providing}
 
 pub record Resolved (ns : List Node) (ds : List Declaration) (p : Port) (o : ℕ) : Type 0 where
@@ -117,3 +116,13 @@ module _ (T : Tables) (id : ℕ) (bs : List Binding) (t : Targeted T id bs) wher
 
   pub target-covers : (p : Port) → List·Memᴰ (dependency id p) (T .declarations) → (b : Binding) × List·Memᴰ b bs × (p ≡ portOf b)
   target-covers p m = in-map portOf bs (rw (bound-ports _ _ bs (t .is-bound)) (in-wants (T .declarations) id p m))
+
+-- no target of a retired or absent component; of another, what its ports bind to
+module _ (T : Tables) (id : ℕ) where
+  pub target-none : not (present (T .nodes) id) || (nodeAt (T .nodes) id) .retired ≡ true → target T id ≡ none
+  unfolding target
+  target-none h = rw (both-or (present (T .nodes) id) ((nodeAt (T .nodes) id) .retired) h)
+
+  pub target-bound : not (present (T .nodes) id) || (nodeAt (T .nodes) id) .retired ≡ false → target T id ≡ bindPorts (resolve (providing (T .nodes)) (T .declarations)) (dependencyPorts (T .declarations) id)
+  unfolding target
+  target-bound h = rw (not-f (present (T .nodes) id) (or-f-l (not (present (T .nodes) id)) _ h), or-f-r (not (present (T .nodes) id)) ((nodeAt (T .nodes) id) .retired) h)

@@ -45,15 +45,15 @@ module _ (S : Sizes) (k : Layout) (a : Sized S k) (h : soundKernel S k ≡ true)
   count-of : {A : Type 0} (n c : ℕ) (xs : List A) → length xs ≡ n → c ≤ n → length (take c xs) ≡ c
   count-of n c xs e l = length-take-le c xs (omega arith)
 
-  node-count : length ((tablesOf k) .nodes) ≡ k .nodeCount
+  pub node-count : length ((tablesOf k) .nodes) ≡ k .nodeCount
   unfolding tablesOf
   node-count = count-of _ _ (k .nodes) (a .nodes) (laid .nodes)
 
-  declaration-count : length ((tablesOf k) .declarations) ≡ k .declarationCount
+  pub declaration-count : length ((tablesOf k) .declarations) ≡ k .declarationCount
   unfolding tablesOf
   declaration-count = count-of _ _ (k .declarations) (a .declarations) (laid .declarations)
 
-  link-count : length ((tablesOf k) .links) ≡ k .linkCount
+  pub link-count : length ((tablesOf k) .links) ≡ k .linkCount
   unfolding tablesOf
   link-count = count-of _ _ (k .links) (a .links) (laid .links)
 

@@ -4,7 +4,7 @@ use mathlib.Core.Bool.{Bool, true}
 use mathlib.Core.List.{List, _∷_}
 use Prim.Native.Nat.{_+_, _<_, _≤_, min, suc, zero, ℕ}
 use native.Mathlib.Omega.{arith}
-use native.Mathlib.Nat.{add-zero, min-le-left, min-le-right, zero-add}
+use native.Mathlib.Nat.{add-zero, le-min, min-le-left, min-le-right, zero-add}
 use lib.ListN.{getD, length, length-take, take}
 use lib.Seq.{ext-getD, getD-take, length-take-le, slice}
 use Rattle.model.proofs.Laws.Lists.{all-in, in-all, in-at, place-in}
@@ -60,3 +60,10 @@ rows-pass {A} p count n f h = in-all p (take count (rowsFrom 0 n f)) (λ x m. go
         let c : k < n = omega (arith, min-le-right count n) in
         let g : f k ≡ x = sym (row-at n k f x c) ∙ sym (getD-take count (rowsFrom 0 n f) k x b) ∙ t .1 in
         rw g at (h k b c)
+
+-- a row below the count passes what the rows up to it pass
+pub row-in : {A : Type 0} (p : A → Bool) (count n : ℕ) (f : ℕ → A) (k : ℕ) → k < count → k < n → all p (take count (rowsFrom 0 n f)) ≡ true → p (f k) ≡ true
+row-in {A} p count n f k l m h =
+    let a : k < length (take count (rowsFrom 0 n f)) = rw (length-take count (rowsFrom 0 n f), length-rows 0 n f) (omega (arith, le-min {k = suc k} {a = count} {b = n} (omega arith) (omega arith))) in
+    let b : p (getD (take count (rowsFrom 0 n f)) k (f 0)) ≡ true = all-in p (place-in (take count (rowsFrom 0 n f)) k (f 0) a) h in
+    rw (getD-take count (rowsFrom 0 n f) k (f 0) l, row-at n k f (f 0) m) at b

@@ -14,7 +14,7 @@ use Rattle.model.specs.Lists.{all, onward}
 use Rattle.model.specs.Soundness.{apart, ordered}
 use Rattle.scans.proofs.Laws.Columns.{row-passes}
 use Rattle.scans.specs.Answers.{AtMost}
-use Rattle.scans.specs.Columns.{endsBelow, linkAt, linksOf}
+use Rattle.scans.specs.Columns.{declarationsOf, endsBelow, linkAt, linksOf}
 
 -- no mark on the consumer of a live link
 abbrev pub unmarked : List Bool → Link → Bool
@@ -90,6 +90,7 @@ mark-none n ls = rw (in-all (unmarked (replicate n false)) ls (λ m k. rw (none-
 
 -- the ends of a row, where every row's ends are below n
 pub row-ends : (n live size end k : ℕ) (consumer provider : List ℕ) → AtMost live size end → k < end → ((key realm : List ℕ) → all (endsBelow n) (take live (linksOf size consumer key realm provider)) ≡ true) → (getD consumer k 0 < n) × (getD provider k 0 < n)
+unfolding declarationsOf linksOf
 row-ends n live size end k consumer provider m l h =
     let both : ltb (getD consumer k 0) n && ltb (getD provider k 0) n ≡ true = row-passes (endsBelow n) live size end k (linkAt consumer [] [] provider) m l (h [] []) in
     (ltb-true (getD consumer k 0) n (and-l (ltb (getD consumer k 0) n) _ both), ltb-true (getD provider k 0) n (and-r (ltb (getD consumer k 0) n) _ both))

@@ -12,6 +12,7 @@ use borrow.Author.Tests.{not-false, not-true}
 use Rattle.model.specs.declared.Declaration.{Declaration}
 use Rattle.model.specs.Lists.{all}
 use Rattle.model.specs.Soundness.{isCovered}
+use Rattle.model.specs.Tables.{installed}
 use Rattle.scans.proofs.Laws.Columns.{rows-most, rows-next}
 use Rattle.scans.proofs.Laws.Scan.{all-done, all-hit, all-next, part-done}
 use Rattle.scans.specs.Columns.{declarationAt, declarationsOf, flag, linksOf}
@@ -32,6 +33,7 @@ at-most-requires : tie.Need-at-most-requires Inv-loop μ-loop
 at-most-requires c κs = search needs
 
 loop-holds : tie.Need-loop-holds Inv-loop μ-loop
+unfolding declarationsOf linksOf
 loop-holds c =
     let a = c .before .args in
     λ provider. ap (all (test (a .installed .now) (a .live) (a .consumer .now) (a .link-key .now) (a .link-realm .now) provider)) (rows-most (a .count) 256 _ (declarationAt (a .owner .now) (a .key .now) (a .realm .now) (a .provides .now)) (c .at-most .ensures))
@@ -64,7 +66,7 @@ linked-requires : tie.Need-linked-requires Inv-loop μ-loop
 linked-requires c κs = search needs
 
 returns : tie.Need-returns Inv-loop μ-loop
-unfolding isCovered
+unfolding isCovered declarationsOf linksOf
 returns c =
     let s = c .before .before .before .before .before .before .before .before .before in
     let a = s .before .before .args in
@@ -79,7 +81,7 @@ loop-less : tie.Need-loop-less Inv-loop μ-loop
 loop-less c = omega arith
 
 loop-again : tie.Need-loop-again Inv-loop μ-loop
-unfolding isCovered
+unfolding isCovered declarationsOf linksOf
 loop-again c =
     let s = c .before .before .before .before .before in
     let a = s .before .before .args in

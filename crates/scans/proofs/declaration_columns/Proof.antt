@@ -10,7 +10,7 @@ use Rattle.model.specs.declared.Declaration.{Declaration}
 use Rattle.model.specs.Records.{blankDeclaration}
 use Rattle.scans.proofs.Laws.Columns.{rows-are}
 use Rattle.scans.proofs.Laws.Filled.{Filled, declaration-row, filled-next, filled-none}
-use Rattle.scans.specs.Columns.{declarationAt}
+use Rattle.scans.specs.Columns.{declarationAt, declarationsOf, linksOf}
 use Rattle.scans.proofs.declaration_columns.Statement.{statement}
 use Rattle.scans.proofs.declaration_columns.Tie as tie
 
@@ -71,6 +71,7 @@ loop-again c =
     (omega arith, rw e (filled-next _ 256 (j .i) (j .owner) _ d l (j .inv .1)), rw e (filled-next _ 256 (j .i) (j .key) _ d l (j .inv .2)), rw e (filled-next _ 256 (j .i) (j .realm) _ d l (j .inv .3)), rw e (filled-next _ 256 (j .i) (j .provides) _ d l (j .inv .4)))
 
 returns : tie.Need-returns Inv-loop μ-loop
+unfolding declarationsOf linksOf
 returns c =
     let ds = c .before .before .args .t1 in
     let j = c .before .loop in

@@ -11,7 +11,7 @@ use Rattle.model.specs.Samples.{port}
 use Rattle.model.specs.Soundness.{isDeclaration}
 use Rattle.scans.proofs.Laws.Columns.{rows-most, rows-next}
 use Rattle.scans.proofs.Laws.Scan.{any-done, any-hit, any-next, part-done}
-use Rattle.scans.specs.Columns.{declarationAt, declarationsOf}
+use Rattle.scans.specs.Columns.{declarationAt, declarationsOf, linksOf}
 use Rattle.scans.proofs.declared.Statement.{statement}
 use Rattle.scans.proofs.declared.Tie as tie
 
@@ -26,6 +26,7 @@ at-most-requires : tie.Need-at-most-requires Inv-loop μ-loop
 at-most-requires c κs = search needs
 
 loop-holds : tie.Need-loop-holds Inv-loop μ-loop
+unfolding declarationsOf linksOf
 loop-holds c =
     let a = c .before .args in
     ap (any (isDeclaration (a .o) (a .port) (a .provision))) (rows-most (a .count) 256 _ (declarationAt (a .owner .now) (a .key .now) (a .realm .now) (a .provides .now)) (c .at-most .ensures))
@@ -52,7 +53,7 @@ element-copy-out-if1-2 : tie.Need-element-copy-out-if1-2 Inv-loop μ-loop
 element-copy-out-if1-2 c = omega arith
 
 returns : tie.Need-returns Inv-loop μ-loop
-unfolding isDeclaration
+unfolding isDeclaration declarationsOf linksOf
 returns c =
     let a = c .before .before .before .before .before .before .before .before .before .before .args in
     let j = c .before .before .before .before .before .before .before .before .loop in
@@ -65,7 +66,7 @@ loop-less : tie.Need-loop-less Inv-loop μ-loop
 loop-less c = omega arith
 
 loop-again : tie.Need-loop-again Inv-loop μ-loop
-unfolding isDeclaration
+unfolding isDeclaration declarationsOf linksOf
 loop-again c =
     let a = c .before .before .before .before .before .before .before .before .before .before .args in
     let j = c .before .before .before .before .before .before .before .before .loop in

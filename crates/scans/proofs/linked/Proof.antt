@@ -7,10 +7,11 @@ use lib.ListN.{take}
 use lib.Seq.{slice}
 use borrow.Author.Needs.{needs}
 use Rattle.model.specs.Lists.{any}
+use Rattle.model.specs.Samples.{port}
 use Rattle.model.specs.Soundness.{linksTo}
 use Rattle.scans.proofs.Laws.Columns.{rows-most, rows-next}
 use Rattle.scans.proofs.Laws.Scan.{any-done, any-hit, any-next, part-done}
-use Rattle.scans.specs.Columns.{linkAt, linksOf}
+use Rattle.scans.specs.Columns.{declarationsOf, linkAt, linksOf}
 use Rattle.scans.proofs.linked.Statement.{statement}
 use Rattle.scans.proofs.linked.Tie as tie
 
@@ -24,6 +25,7 @@ at-most-requires : tie.Need-at-most-requires Inv-loop μ-loop
 at-most-requires c κs = search needs
 
 loop-holds : tie.Need-loop-holds Inv-loop μ-loop
+unfolding declarationsOf linksOf
 loop-holds c =
     let a = c .before .args in
     λ provider. ap (any (linksTo (a .o) (a .port))) (rows-most (a .live) 512 _ (linkAt (a .consumer .now) (a .key .now) (a .realm .now) provider) (c .at-most .ensures))
@@ -47,7 +49,7 @@ element-copy-out-if1 : tie.Need-element-copy-out-if1 Inv-loop μ-loop
 element-copy-out-if1 c = omega arith
 
 returns : tie.Need-returns Inv-loop μ-loop
-unfolding linksTo
+unfolding linksTo declarationsOf linksOf
 returns c =
     let a = c .before .before .before .before .before .before .before .before .before .args in
     let j = c .before .before .before .before .before .before .before .loop in
@@ -60,7 +62,7 @@ loop-less : tie.Need-loop-less Inv-loop μ-loop
 loop-less c = omega arith
 
 loop-again : tie.Need-loop-again Inv-loop μ-loop
-unfolding linksTo
+unfolding linksTo declarationsOf linksOf
 loop-again c =
     let a = c .before .before .before .before .before .before .before .before .before .args in
     let j = c .before .before .before .before .before .before .before .loop in

@@ -10,6 +10,7 @@ use borrow.Author.Tests.{not-false, not-true}
 use Rattle.model.specs.Lists.{all, conj}
 use Rattle.model.specs.Records.{portOf}
 use Rattle.model.specs.Soundness.{declares, linkOk, linkTests}
+use Rattle.model.specs.Tables.{installed, serving}
 use Rattle.scans.proofs.Laws.Columns.{rows-most, rows-next}
 use Rattle.scans.proofs.Laws.Scan.{all-done, all-hit, all-next, part-done}
 use Rattle.scans.specs.Columns.{declarationsOf, flag, linkAt, linksOf, rowsFrom}
@@ -29,6 +30,7 @@ at-most-requires : tie.Need-at-most-requires Inv-loop μ-loop
 at-most-requires c κs = search needs
 
 loop-holds : tie.Need-loop-holds Inv-loop μ-loop
+unfolding declarationsOf linksOf
 loop-holds c =
     let a = c .before .args in
     let row = linkAt (a .consumer .now) (a .link-key .now) (a .link-realm .now) (a .provider .now) in
@@ -74,7 +76,7 @@ declared-requires-2 : tie.Need-declared-requires-2 Inv-loop μ-loop
 declared-requires-2 c κs = search needs
 
 returns : tie.Need-returns Inv-loop μ-loop
-unfolding linkOk
+unfolding linkOk declarationsOf linksOf
 returns c =
     let a = c .before .before .before .before .before .before .before .before .before .before .before .before .args in
     let row = linkAt (a .consumer .now) (a .link-key .now) (a .link-realm .now) (a .provider .now) in
@@ -97,7 +99,7 @@ loop-less : tie.Need-loop-less Inv-loop μ-loop
 loop-less c = omega arith
 
 loop-again : tie.Need-loop-again Inv-loop μ-loop
-unfolding linkOk
+unfolding linkOk declarationsOf linksOf
 loop-again c =
     let a = c .before .before .before .before .before .before .before .before .before .before .before .before .args in
     let row = linkAt (a .consumer .now) (a .link-key .now) (a .link-realm .now) (a .provider .now) in
@@ -114,6 +116,7 @@ loop-again c =
     all-next (linkOk installs serves ds) _ _ _ _ (rows-next 512 (j .i) (c .before .before .before .before .before .before .before .before .before .before .before .at-most .result) row (omega arith) (omega arith)) (j .inv) t
 
 returns-2 : tie.Need-returns-2 Inv-loop μ-loop
+unfolding declarationsOf linksOf
 returns-2 c =
     let a = c .before .before .before .args in
     let row = linkAt (a .consumer .now) (a .link-key .now) (a .link-realm .now) (a .provider .now) in

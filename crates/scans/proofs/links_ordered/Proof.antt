@@ -10,7 +10,7 @@ use Rattle.model.specs.Soundness.{ordered}
 use Rattle.scans.proofs.Laws.Columns.{rows-most, rows-next}
 use Rattle.scans.proofs.Laws.Marking.{leftToOrder, mark-done, mark-hit, mark-next, mark-none, row-ends}
 use Rattle.scans.proofs.Laws.Scan.{part-done}
-use Rattle.scans.specs.Columns.{linkAt, linksOf}
+use Rattle.scans.specs.Columns.{declarationsOf, linkAt, linksOf}
 use Rattle.scans.proofs.links_ordered.Statement.{statement}
 use Rattle.scans.proofs.links_ordered.Tie as tie
 
@@ -25,6 +25,7 @@ at-most-requires : tie.Need-at-most-requires Inv-loop μ-loop
 at-most-requires c κs = search needs
 
 loop-holds : tie.Need-loop-holds Inv-loop μ-loop
+unfolding declarationsOf linksOf
 loop-holds c =
     let a = c .before .args in
     (refl, λ key realm. mark-none 64 _ ∙ ap ordered (rows-most (a .live) 512 _ (linkAt (a .consumer .now) key realm (a .provider .now)) (c .at-most .ensures)))
@@ -42,6 +43,7 @@ element-copy-out-c : tie.Need-element-copy-out-c Inv-loop μ-loop
 element-copy-out-c c = omega arith
 
 array-write-met : tie.Need-array-write-met Inv-loop μ-loop
+unfolding declarationsOf linksOf
 array-write-met c =
     let a = c .before .before .before .before .before .args in
     let j = c .before .before .before .loop in
@@ -49,6 +51,7 @@ array-write-met c =
     row-ends 64 (a .live) 512 (m .result) (j .i) (a .consumer .now) (a .provider .now) (m .ensures) (omega arith) (c .before .before .before .before .before .pre) .1
 
 array-read-if1 : tie.Need-array-read-if1 Inv-loop μ-loop
+unfolding declarationsOf linksOf
 array-read-if1 c =
     let a = c .before .before .before .before .before .args in
     let j = c .before .before .before .loop in
@@ -56,6 +59,7 @@ array-read-if1 c =
     row-ends 64 (a .live) 512 (m .result) (j .i) (a .consumer .now) (a .provider .now) (m .ensures) (omega arith) (c .before .before .before .before .before .pre) .0
 
 returns : tie.Need-returns Inv-loop μ-loop
+unfolding declarationsOf linksOf
 returns c =
     let a = c .before .before .before .before .before .before .args in
     let j = c .before .before .before .before .loop in
@@ -71,6 +75,7 @@ loop-less : tie.Need-loop-less Inv-loop μ-loop
 loop-less c = omega arith
 
 loop-again : tie.Need-loop-again Inv-loop μ-loop
+unfolding declarationsOf linksOf
 loop-again c =
     let a = c .before .before .before .before .before .before .args in
     let j = c .before .before .before .before .loop in

@@ -12,7 +12,7 @@ use Rattle.model.specs.Lists.{keep}
 use Rattle.model.specs.Records.{blankLink}
 use Rattle.scans.proofs.Laws.Filled.{Filled, filled-next, filled-none, first-rows, kept-at, link-row}
 use Rattle.scans.proofs.Laws.Scan.{keep-done, keep-skip, keep-take, part-done, part-next, take-most}
-use Rattle.scans.specs.Columns.{linkAt}
+use Rattle.scans.specs.Columns.{declarationsOf, linkAt, linksOf}
 use Rattle.scans.proofs.live_columns.Statement.{statement}
 use Rattle.scans.proofs.live_columns.Tie as tie
 
@@ -114,6 +114,7 @@ loop-again c =
     (c .if1 .came)
 
 returns : tie.Need-returns Inv-loop μ-loop
+unfolding declarationsOf linksOf
 returns c =
     let a = c .before .before .before .args in
     let j = c .before .loop in

@@ -10,9 +10,10 @@ use borrow.Author.Tests.{not-false, not-true}
 use Rattle.model.specs.declared.Declaration.{Declaration}
 use Rattle.model.specs.Lists.{all}
 use Rattle.model.specs.Soundness.{sameOwner}
+use Rattle.model.specs.Tables.{present}
 use Rattle.scans.proofs.Laws.Columns.{rows-most, rows-next}
 use Rattle.scans.proofs.Laws.Scan.{all-done, all-hit, all-next, part-done}
-use Rattle.scans.specs.Columns.{declarationAt, declarationsOf, flag, rowsFrom}
+use Rattle.scans.specs.Columns.{declarationAt, declarationsOf, flag, linksOf, rowsFrom}
 use Rattle.scans.proofs.one_owner.Statement.{statement}
 use Rattle.scans.proofs.one_owner.Tie as tie
 
@@ -29,6 +30,7 @@ at-most-requires : tie.Need-at-most-requires Inv-loop μ-loop
 at-most-requires c κs = search needs
 
 loop-holds : tie.Need-loop-holds Inv-loop μ-loop
+unfolding declarationsOf linksOf
 loop-holds c =
     let a = c .before .args in
     let row = declarationAt (a .owner .now) (a .key .now) (a .realm .now) (a .provides .now) in
@@ -60,6 +62,7 @@ one-provider-requires : tie.Need-one-provider-requires Inv-loop μ-loop
 one-provider-requires c κs = search needs
 
 returns : tie.Need-returns Inv-loop μ-loop
+unfolding declarationsOf linksOf
 returns c =
     let a = c .before .before .before .before .before .before .before .before .before .args in
     let row = declarationAt (a .owner .now) (a .key .now) (a .realm .now) (a .provides .now) in
@@ -75,6 +78,7 @@ loop-less : tie.Need-loop-less Inv-loop μ-loop
 loop-less c = omega arith
 
 loop-again : tie.Need-loop-again Inv-loop μ-loop
+unfolding declarationsOf linksOf
 loop-again c =
     let a = c .before .before .before .before .before .before .before .before .before .args in
     let row = declarationAt (a .owner .now) (a .key .now) (a .realm .now) (a .provides .now) in
@@ -84,6 +88,7 @@ loop-again c =
     all-next alone _ _ _ _ (rows-next 256 (j .i) (c .before .before .before .before .before .before .before .before .at-most .result) row (omega arith) (omega arith)) (j .inv) (not-false (alone (row (j .i))) (rw f at (c .if1 .left)))
 
 returns-2 : tie.Need-returns-2 Inv-loop μ-loop
+unfolding declarationsOf linksOf
 returns-2 c =
     let a = c .before .before .before .args in
     let row = declarationAt (a .owner .now) (a .key .now) (a .realm .now) (a .provides .now) in

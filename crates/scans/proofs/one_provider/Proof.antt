@@ -7,11 +7,13 @@ use lib.ListN.{take}
 use lib.Seq.{slice}
 use borrow.Author.Needs.{needs}
 use Rattle.model.specs.Lists.{all, conj}
+use Rattle.model.specs.Samples.{port}
 use Rattle.model.specs.Soundness.{rivalTests, sameOwner}
+use Rattle.model.specs.Tables.{present}
 use Rattle.scans.proofs.Laws.Columns.{rows-most, rows-next}
 use Rattle.scans.proofs.Laws.Implications.{imp-broken, imp-kept}
 use Rattle.scans.proofs.Laws.Scan.{all-done, all-hit, all-next, part-done}
-use Rattle.scans.specs.Columns.{declarationAt, declarationsOf, flag}
+use Rattle.scans.specs.Columns.{declarationAt, declarationsOf, flag, linksOf}
 use Rattle.scans.proofs.one_provider.Statement.{statement}
 use Rattle.scans.proofs.one_provider.Tie as tie
 
@@ -30,6 +32,7 @@ flag-at-requires : tie.Need-flag-at-requires Inv-loop μ-loop
 flag-at-requires c κs = search needs
 
 loop-holds : tie.Need-loop-holds Inv-loop μ-loop
+unfolding declarationsOf linksOf
 loop-holds c =
     let a = c .before .before .before .args in
     ap (all (sameOwner (flag 64 (a .present .now)) (a .d))) (rows-most (a .count) 256 _ (declarationAt (a .owner .now) (a .key .now) (a .realm .now) (a .provides .now)) (c .before .before .at-most .ensures))
@@ -59,7 +62,7 @@ element-copy-out-rivals : tie.Need-element-copy-out-rivals Inv-loop μ-loop
 element-copy-out-rivals c = omega arith
 
 returns : tie.Need-returns Inv-loop μ-loop
-unfolding sameOwner
+unfolding sameOwner declarationsOf linksOf
 returns c =
     let a = c .before .before .before .before .before .before .before .before .before .before .before .before .before .before .args in
     let j = c .before .before .before .before .before .before .before .before .before .before .loop in
@@ -77,7 +80,7 @@ loop-less : tie.Need-loop-less Inv-loop μ-loop
 loop-less c = omega arith
 
 loop-again : tie.Need-loop-again Inv-loop μ-loop
-unfolding sameOwner
+unfolding sameOwner declarationsOf linksOf
 loop-again c =
     let a = c .before .before .before .before .before .before .before .before .before .before .before .before .before .before .args in
     let j = c .before .before .before .before .before .before .before .before .before .before .loop in

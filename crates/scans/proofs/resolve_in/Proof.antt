@@ -9,10 +9,12 @@ use borrow.Author.Needs.{needs}
 use Rattle.model.specs.declared.Declaration.{Declaration}
 use Rattle.model.specs.Answers.{resolution}
 use Rattle.model.specs.Resolution.{offers, resolve}
+use Rattle.model.specs.Samples.{port}
+use Rattle.model.specs.Tables.{providing}
 use Rattle.scans.proofs.Laws.Columns.{rows-most, rows-next}
 use Rattle.scans.proofs.Laws.Resolving.{resolve-done, resolve-hit, resolve-next}
 use Rattle.scans.proofs.Laws.Scan.{part-done}
-use Rattle.scans.specs.Columns.{declarationAt, declarationsOf, flag}
+use Rattle.scans.specs.Columns.{declarationAt, declarationsOf, flag, linksOf}
 use Rattle.scans.proofs.resolve_in.Statement.{statement}
 use Rattle.scans.proofs.resolve_in.Tie as tie
 
@@ -27,6 +29,7 @@ at-most-requires : tie.Need-at-most-requires Inv-loop μ-loop
 at-most-requires c κs = search needs
 
 loop-holds : tie.Need-loop-holds Inv-loop μ-loop
+unfolding declarationsOf linksOf
 loop-holds c =
     let a = c .before .args in
     ap (λ (ds : List Declaration). resolve (flag 64 (a .providing .now)) ds (a .port)) (rows-most (a .count) 256 _ (declarationAt (a .owner .now) (a .key .now) (a .realm .now) (a .provides .now)) (c .at-most .ensures))
@@ -56,7 +59,7 @@ element-copy-out-if1 : tie.Need-element-copy-out-if1 Inv-loop μ-loop
 element-copy-out-if1 c = omega arith
 
 returns : tie.Need-returns Inv-loop μ-loop
-unfolding offers
+unfolding offers declarationsOf linksOf
 returns c =
     let a = c .before .before .before .before .before .before .before .before .before .before .before .args in
     let j = c .before .before .before .before .before .before .before .before .before .loop in
@@ -70,7 +73,7 @@ loop-less : tie.Need-loop-less Inv-loop μ-loop
 loop-less c = omega arith
 
 loop-again : tie.Need-loop-again Inv-loop μ-loop
-unfolding offers
+unfolding offers declarationsOf linksOf
 loop-again c =
     let a = c .before .before .before .before .before .before .before .before .before .before .before .args in
     let j = c .before .before .before .before .before .before .before .before .before .loop in

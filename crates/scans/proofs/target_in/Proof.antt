@@ -8,15 +8,18 @@ use native.Mathlib.Omega.{arith}
 use lib.ListN.{length, length-append, take}
 use lib.Seq.{slice}
 use borrow.Author.Needs.{needs}
+use types.Part.{whole}
 use Rattle.model.specs.declared.Binding.{Binding}
 use Rattle.model.proofs.Laws.Arrays.{snoc-padded}
+use Rattle.model.specs.Lifecycle.{bindings}
 use Rattle.model.specs.Lists.{padded}
 use Rattle.model.specs.Records.{bindingOf, blankBinding}
 use Rattle.model.specs.Resolution.{bindPorts, dependencyPorts, isDependencyOf, resolve}
+use Rattle.model.specs.Tables.{providing}
 use Rattle.scans.proofs.Laws.Columns.{rows-most, rows-next}
 use Rattle.scans.proofs.Laws.Resolving.{after, after-nothing, bind-done, bind-none, bind-skip, bind-take, found, not-found}
 use Rattle.scans.proofs.Laws.Scan.{part-done}
-use Rattle.scans.specs.Columns.{declarationAt, declarationsOf, flag}
+use Rattle.scans.specs.Columns.{declarationAt, declarationsOf, flag, linksOf}
 use Rattle.scans.proofs.target_in.Statement.{statement}
 use Rattle.scans.proofs.target_in.Tie as tie
 
@@ -38,7 +41,7 @@ blank-binding-requires : tie.Need-blank-binding-requires Inv-loop μ-loop
 blank-binding-requires c κs = search needs
 
 loop-holds : tie.Need-loop-holds Inv-loop μ-loop
-unfolding padded
+unfolding padded declarationsOf linksOf
 loop-holds c =
     let a = c .before .before .args in
     ([], rw (c .blank-binding .ensures), refl, omega arith, rw (rows-most (a .count) 256 _ (declarationAt (a .owner .now) (a .key .now) (a .realm .now) (a .provides .now)) (c .before .at-most .ensures)) (after-nothing _))
@@ -74,7 +77,7 @@ enum-told : tie.Need-enum-told Inv-loop μ-loop
 enum-told c = search needs
 
 returns : tie.Need-returns Inv-loop μ-loop
-unfolding isDependencyOf padded
+unfolding isDependencyOf padded declarationsOf linksOf
 returns c =
     let a = c .before .before .before .before .before .before .before .before .before .before .before .before .args in
     let j = c .before .before .before .before .before .before .before .before .before .loop in
@@ -105,7 +108,7 @@ loop-less : tie.Need-loop-less Inv-loop μ-loop
 loop-less c = omega arith
 
 loop-again : tie.Need-loop-again Inv-loop μ-loop
-unfolding isDependencyOf
+unfolding isDependencyOf declarationsOf linksOf
 loop-again c =
     let a = c .before .before .before .before .before .before .before .args in
     let j = c .before .before .before .before .loop in

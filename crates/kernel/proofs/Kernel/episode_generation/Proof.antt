@@ -1,0 +1,40 @@
+-- `kernel::Kernel::episode_generation` meets its contract: an absent node has none.
+use mathlib.Core.Path.{_∙_, _≡_, ap, sym}
+use mathlib.Core.Bool.{cond, false, true}
+use mathlib.Core.Option.{none, some}
+use lib.ListN.{getD}
+use borrow.Author.Needs.{needs}
+use borrow.Author.Tests.{not-false, not-true}
+use Rattle.kernel.proofs.Laws.Observed.{ask-node, ask-past, ask-unsound}
+use Rattle.kernel.proofs.Laws.Sized.{sized}
+use Rattle.model.specs.Answers.{optionGeneration}
+use Rattle.model.specs.Observers.{episodeGeneration}
+use Rattle.model.specs.Records.{blankNode}
+use Rattle.kernel.proofs.Kernel.episode_generation.Statement.{statement}
+use Rattle.kernel.proofs.Kernel.episode_generation.Tie as tie
+
+sound-requires : tie.Need-sound-requires
+sound-requires c κs = search needs
+
+returns : tie.Need-returns
+returns c = sym (ap optionGeneration (ask-unsound (c .before .before .args .t1) (c .before .sound .result) none (λ T. episodeGeneration T (c .before .before .args .id)) (c .before .sound .ensures) (c .if1 .taken)))
+
+returns-2 : tie.Need-returns-2
+returns-2 c = sym (ap optionGeneration (ask-past (c .before .before .before .args .t1) (sized (c .before .before .before .args .t1) (c .before .before .before .good .0, tt)) (c .before .before .sound .result) (c .before .before .sound .ensures) (c .before .if1 .left) none (λ n. cond (n .present) (some (n .generation)) none) (c .before .before .before .args .id) (c .if2 .taken)))
+
+mul-node : tie.Need-mul-node
+mul-node c = search needs
+
+element-copy-out-node : tie.Need-element-copy-out-node
+element-copy-out-node c = search needs
+
+returns-3 : tie.Need-returns-3
+returns-3 c = let a : (getD (c .before .before .before .before .before .before .args .t1 .nodes) (c .before .before .before .before .before .before .args .id) blankNode) .present ≡ false = not-true _ (c .if3 .taken) in sym (ap optionGeneration (ask-node (c .before .before .before .before .before .before .args .t1) (sized (c .before .before .before .before .before .before .args .t1) (c .before .before .before .before .before .before .good .0, tt)) (c .before .before .before .before .before .sound .result) (c .before .before .before .before .before .sound .ensures) (c .before .before .before .before .if1 .left) none (λ n. cond (n .present) (some (n .generation)) none) (c .before .before .before .before .before .before .args .id)) ∙ rw a)
+
+returns-4 : tie.Need-returns-4
+returns-4 c = let a : (getD (c .before .before .before .before .before .before .args .t1 .nodes) (c .before .before .before .before .before .before .args .id) blankNode) .present ≡ true = not-false _ (c .if3 .left) in sym (ap optionGeneration (ask-node (c .before .before .before .before .before .before .args .t1) (sized (c .before .before .before .before .before .before .args .t1) (c .before .before .before .before .before .before .good .0, tt)) (c .before .before .before .before .before .sound .result) (c .before .before .before .before .before .sound .ensures) (c .before .before .before .before .if1 .left) none (λ n. cond (n .present) (some (n .generation)) none) (c .before .before .before .before .before .before .args .id)) ∙ rw a)
+
+pub episode-generation-spec : {M : Type 1} → statement M
+episode-generation-spec =
+    tie.close
+    (tie.spec sound-requires returns returns-2 mul-node element-copy-out-node returns-3 returns-4)

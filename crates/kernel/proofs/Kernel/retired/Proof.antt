@@ -1,0 +1,31 @@
+-- `kernel::Kernel::retired` meets its contract: of an identity past the table the node is blank.
+use mathlib.Core.Path.{sym}
+use mathlib.Core.Bool.{_&&_, false}
+use borrow.Author.Needs.{needs}
+use Rattle.kernel.proofs.Laws.Observed.{ask-node, ask-past, ask-unsound}
+use Rattle.kernel.proofs.Laws.Sized.{sized}
+use Rattle.model.specs.Observers.{retired}
+use Rattle.kernel.proofs.Kernel.retired.Statement.{statement}
+use Rattle.kernel.proofs.Kernel.retired.Tie as tie
+
+sound-requires : tie.Need-sound-requires
+sound-requires c κs = search needs
+
+returns : tie.Need-returns
+returns c = sym (ask-unsound (c .before .before .args .t1) (c .before .sound .result) false (λ T. retired T (c .before .before .args .id)) (c .before .sound .ensures) (c .if1 .taken))
+
+returns-2 : tie.Need-returns-2
+returns-2 c = sym (ask-past (c .before .before .before .args .t1) (sized (c .before .before .before .args .t1) (c .before .before .before .good .0, tt)) (c .before .before .sound .result) (c .before .before .sound .ensures) (c .before .if1 .left) false (λ n. n .present && n .retired) (c .before .before .before .args .id) (c .if2 .taken))
+
+mul-node : tie.Need-mul-node
+mul-node c = search needs
+
+element-copy-out-node : tie.Need-element-copy-out-node
+element-copy-out-node c = search needs
+
+returns-3 : tie.Need-returns-3
+returns-3 c = sym (ask-node (c .before .before .before .before .before .args .t1) (sized (c .before .before .before .before .before .args .t1) (c .before .before .before .before .before .good .0, tt)) (c .before .before .before .before .sound .result) (c .before .before .before .before .sound .ensures) (c .before .before .before .if1 .left) false (λ n. n .present && n .retired) (c .before .before .before .before .before .args .id))
+
+pub retired-spec : {M : Type 1} → statement M
+retired-spec =
+    tie.close (tie.spec sound-requires returns returns-2 mul-node element-copy-out-node returns-3)

@@ -1,0 +1,4 @@
+-- What the methods' proofs cite.
+pub mod Sized
+pub mod Entry
+pub mod Observed
