@@ -2,3 +2,4 @@
 pub mod Sized
 pub mod Entry
 pub mod Observed
+pub mod Commanded

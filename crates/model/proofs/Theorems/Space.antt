@@ -10,7 +10,6 @@ use native.Mathlib.Decide.{ℕ-discrete}
 use lib.Dec.{eqb}
 use lib.ListN.{length, length-map}
 use borrow.Author.Tests.{eq-eqb, le-ltb, ne-eqb}
-use contract.Running.{tables}
 use Rattle.model.specs.declared.Binding.{Binding}
 use Rattle.model.specs.declared.Declaration.{Declaration}
 use Rattle.model.specs.declared.Error.{Error}
@@ -136,3 +135,7 @@ space-after-compaction S w cs id r =
     let c : (step S T Command.compactBindings) .tables ≡ bindingsCompacted T = ap (λ (o : Outcome). o .tables) (accepted S T Command.compactBindings tt) in
     let p : Passed (beginTests S (bindingsCompacted T) id) = room-begin S T id w (facts S T (run-sound S cs)) (λ j. from-kept S empty j none cs (empty-sound S) (empty-kept j) .ports) (before-space S T id r) in
     rw c (ap (λ (o : Outcome). o .reply) (accepted S (bindingsCompacted T) (Command.begin id) p))
+
+-- a begin that gives 9 names a present component
+pub capacity-known : (S : Sizes) (T : Tables) (id : ℕ) → (step S T (Command.begin id)) .reply ≡ Reply.refused Error.Capacity → present (T .nodes) id ≡ true
+capacity-known S T id h = not-f _ ((next _ _ _ _ (λ e. omega arith) (begin-refusal S T id Error.Capacity h)) .0)

@@ -1,0 +1,2 @@
+-- The theorems about kernel values.
+pub mod Reached

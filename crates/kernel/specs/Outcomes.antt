@@ -1,0 +1,24 @@
+-- What the commands hand back: the kernel and the answer of `commanded`, in the code's structs and enums.
+use Rattle.kernel.specs.declared.CompactionOutcome.{CompactionOutcome}
+use Rattle.kernel.specs.declared.InsertOutcome.{InsertOutcome}
+use Rattle.kernel.specs.declared.Kernel.{Kernel}
+use Rattle.kernel.specs.declared.Outcome.{Outcome}
+use Rattle.kernel.specs.Fields.{kernelOf, layoutOf}
+use Rattle.model.specs.Answers.{answer, insertAnswer, removedCount}
+use Rattle.model.specs.Commands.{Command}
+use Rattle.model.specs.Kernels.{Commanded, commanded}
+use Rattle.model.specs.Sizes.{controller}
+
+-- a command on a kernel value
+abbrev pub command : Kernel → Command → Commanded
+command k c = commanded controller (layoutOf k) c
+
+abbrev pub outcome : Commanded → Outcome
+outcome x = record { kernel = kernelOf (x .kernel); answer = answer (x .reply) }
+
+abbrev pub insertOutcome : Commanded → InsertOutcome
+insertOutcome x = record { kernel = kernelOf (x .kernel); answer = insertAnswer (x .reply) }
+
+-- with the count removed, 0 on a refusal
+abbrev pub compactionOutcome : Commanded → CompactionOutcome
+compactionOutcome x = record { kernel = kernelOf (x .kernel); answer = answer (x .reply); removed = removedCount (x .reply) }

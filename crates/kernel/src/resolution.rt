@@ -1,0 +1,61 @@
+// resolve, target, committed.
+ghost use mathlib.Core.Path.{_≡_};
+ghost use mathlib.Core.List.{[]};
+ghost use mathlib.Core.Option.{none};
+ghost use Rattle.kernel.specs.Fields.{ask};
+ghost use Rattle.model.specs.Answers.{resolution};
+ghost use Rattle.model.specs.Resolution.{resolve, target, committed};
+ghost use Rattle.model.specs.Tables.{providing};
+ghost use Rattle.scans.specs.Answers.{targetBindings, committedBindings};
+use crate::Kernel;
+use model::Port;
+use model::Resolution;
+use scans::CommittedBindings;
+use scans::TargetBindings;
+
+impl Kernel {
+    // The Active owner that provides the port.
+    pub fn resolve(self, port: Port) -> Resolution
+        ensures { λ r. ⌜ r ≡ resolution (ask self none (λ T. resolve (providing (T .nodes)) (T .declarations) port)) ⌝ }
+    {
+        if !self.sound() {
+            return Resolution::None;
+        }
+        let nodes = self.nodes;
+        let declarations = self.declarations;
+        let count = self.declaration_count;
+        scans::resolve_table(nodes, declarations, count, port)
+    }
+
+    // A binding for each dependency, in declaration order; none if a port does not resolve or the node is retired or absent.
+    pub fn target(self, id: usize) -> TargetBindings
+        ensures { λ r. ⌜ r ≡ targetBindings (ask self none (λ T. target T id)) ⌝ }
+    {
+        if !self.sound() {
+            return scans::no_target();
+        }
+        if 64 <= id {
+            return scans::no_target();
+        }
+        let node = self.nodes[id];
+        if !node.present | node.retired {
+            return scans::no_target();
+        }
+        let nodes = self.nodes;
+        let declarations = self.declarations;
+        let count = self.declaration_count;
+        scans::target_table(nodes, declarations, count, id)
+    }
+
+    // The bindings of a consumer's live links, in link order.
+    pub fn committed(self, id: usize) -> CommittedBindings
+        ensures { λ r. ⌜ r ≡ committedBindings (ask self [] (λ T. committed (T .links) id)) ⌝ }
+    {
+        let links = self.links;
+        if !self.sound() {
+            return scans::committed_in(links, 0, id);
+        }
+        let count = self.link_count;
+        scans::committed_in(links, count, id)
+    }
+}
