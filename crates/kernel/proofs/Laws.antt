@@ -3,3 +3,8 @@ pub mod Sized
 pub mod Entry
 pub mod Observed
 pub mod Commanded
+pub mod Stored
+pub mod Target
+pub mod Iteration
+pub mod Declared
+pub mod Begin

@@ -5,6 +5,8 @@ use model::InsertAnswer;
 use model::Link;
 use model::Node;
 
+mod compaction;
+mod interface;
 mod lifecycle;
 mod observers;
 mod resolution;

@@ -1,7 +1,11 @@
 // Lifecycle.
 ghost use mathlib.Core.Path.{_≡_};
+ghost use Rattle.kernel.specs.Fields.{ask};
 ghost use Rattle.kernel.specs.Outcomes.{command, outcome};
+ghost use Rattle.model.specs.Answers.{answer};
 ghost use Rattle.model.specs.Commands.{Command};
+ghost use Rattle.model.specs.Lifecycle.{checkIteration};
+ghost use Rattle.model.specs.Refusals.{Reply};
 use crate::Kernel;
 use crate::Outcome;
 use model::Answer;
@@ -9,6 +13,164 @@ use model::Error;
 use model::Phase;
 
 impl Kernel {
+    // begin: an Inactive component with a target becomes Loading, and the target its live links.
+    pub fn begin(mut self, id: usize) -> Outcome
+        ensures { λ r. ⌜ r ≡ outcome (command self (Command.begin id)) ⌝ }
+    {
+        if !self.sound() {
+            return Outcome {
+                kernel: self,
+                answer: Answer::Refused(Error::Damaged),
+            };
+        }
+        if 64 <= id {
+            return Outcome {
+                kernel: self,
+                answer: Answer::Refused(Error::Unknown),
+            };
+        }
+        let node = self.nodes[id];
+        if !node.present {
+            return Outcome {
+                kernel: self,
+                answer: Answer::Refused(Error::Unknown),
+            };
+        }
+        let phase = node.phase;
+        if !model::is_inactive(phase) {
+            return Outcome {
+                kernel: self,
+                answer: Answer::Refused(Error::InvalidState),
+            };
+        }
+        if node.retired {
+            return Outcome {
+                kernel: self,
+                answer: Answer::Refused(Error::Retired),
+            };
+        }
+        if node.generation == 18446744073709551615 {
+            return Outcome {
+                kernel: self,
+                answer: Answer::Refused(Error::Capacity),
+            };
+        }
+        let nodes = self.nodes;
+        let declarations = self.declarations;
+        let count = self.declaration_count;
+        let target = scans::target_table(nodes, declarations, count, id);
+        if !target.there {
+            return Outcome {
+                kernel: self,
+                answer: Answer::Refused(Error::MissingDependency),
+            };
+        }
+        let more = target.count;
+        let linked = self.link_count;
+        if 512 - linked < more {
+            return Outcome {
+                kernel: self,
+                answer: Answer::Refused(Error::Capacity),
+            };
+        }
+        self.nodes[id] = model::started_node(node.generation + 1, node);
+        let mut i = 0;
+        while i < more {
+            let b = target.bindings[i];
+            self.links[linked + i] = model::live_link(id, b);
+            i += 1;
+        }
+        self.link_count = linked + more;
+        Outcome {
+            kernel: self,
+            answer: Answer::Done,
+        }
+    }
+
+    // check_iteration: whether a Loading component still has a target.
+    pub fn check_iteration(self, id: usize) -> Answer
+        ensures { λ r. ⌜ r ≡ answer (ask self (Reply.refused Error.Damaged) (λ T. checkIteration T id)) ⌝ }
+    {
+        if !self.sound() {
+            return Answer::Refused(Error::Damaged);
+        }
+        if 64 <= id {
+            return Answer::Refused(Error::Unknown);
+        }
+        let node = self.nodes[id];
+        if !node.present {
+            return Answer::Refused(Error::Unknown);
+        }
+        let phase = node.phase;
+        if !model::is_loading(phase) {
+            return Answer::Refused(Error::InvalidState);
+        }
+        if node.retired {
+            return Answer::Refused(Error::Changed);
+        }
+        let nodes = self.nodes;
+        let declarations = self.declarations;
+        let count = self.declaration_count;
+        let target = scans::target_table(nodes, declarations, count, id);
+        if !target.there {
+            return Answer::Refused(Error::Changed);
+        }
+        Answer::Done
+    }
+
+    // finish: a Loading component that still has a target becomes Active.
+    pub fn finish(mut self, id: usize) -> Outcome
+        ensures { λ r. ⌜ r ≡ outcome (command self (Command.finish id)) ⌝ }
+    {
+        if !self.sound() {
+            return Outcome {
+                kernel: self,
+                answer: Answer::Refused(Error::Damaged),
+            };
+        }
+        if 64 <= id {
+            return Outcome {
+                kernel: self,
+                answer: Answer::Refused(Error::Unknown),
+            };
+        }
+        let node = self.nodes[id];
+        if !node.present {
+            return Outcome {
+                kernel: self,
+                answer: Answer::Refused(Error::Unknown),
+            };
+        }
+        let phase = node.phase;
+        if !model::is_loading(phase) {
+            return Outcome {
+                kernel: self,
+                answer: Answer::Refused(Error::InvalidState),
+            };
+        }
+        if node.retired {
+            return Outcome {
+                kernel: self,
+                answer: Answer::Refused(Error::Changed),
+            };
+        }
+        let nodes = self.nodes;
+        let declarations = self.declarations;
+        let count = self.declaration_count;
+        let target = scans::target_table(nodes, declarations, count, id);
+        if !target.there {
+            return Outcome {
+                kernel: self,
+                answer: Answer::Refused(Error::Changed),
+            };
+        }
+        self.nodes[id] = model::with_phase(Phase::Active, node);
+        Outcome {
+            kernel: self,
+            answer: Answer::Done,
+        }
+    }
+
     // leave: a Loading or Active component becomes Unloading.
     pub fn leave(mut self, id: usize) -> Outcome
         ensures { λ r. ⌜ r ≡ outcome (command self (Command.leave id)) ⌝ }
@@ -46,6 +208,53 @@ impl Kernel {
         }
     }
 
+    // leave_if_changed: a Loading or Active component that has no target becomes Unloading.
+    pub fn leave_if_changed(mut self, id: usize) -> Outcome
+        ensures { λ r. ⌜ r ≡ outcome (command self (Command.leaveIfChanged id)) ⌝ }
+    {
+        if !self.sound() {
+            return Outcome {
+                kernel: self,
+                answer: Answer::Refused(Error::Damaged),
+            };
+        }
+        if 64 <= id {
+            return Outcome {
+                kernel: self,
+                answer: Answer::Refused(Error::Unknown),
+            };
+        }
+        let node = self.nodes[id];
+        if !node.present {
+            return Outcome {
+                kernel: self,
+                answer: Answer::Refused(Error::Unknown),
+            };
+        }
+        let phase = node.phase;
+        if !model::is_running(phase) {
+            return Outcome {
+                kernel: self,
+                answer: Answer::Refused(Error::InvalidState),
+            };
+        }
+        let nodes = self.nodes;
+        let declarations = self.declarations;
+        let count = self.declaration_count;
+        let target = scans::target_table(nodes, declarations, count, id);
+        if !node.retired & target.there {
+            return Outcome {
+                kernel: self,
+                answer: Answer::Refused(Error::Changed),
+            };
+        }
+        self.nodes[id] = model::with_phase(Phase::Unloading, node);
+        Outcome {
+            kernel: self,
+            answer: Answer::Done,
+        }
+    }
+
     // retire: in each phase, and twice.
     pub fn retire(mut self, id: usize) -> Outcome
         ensures { λ r. ⌜ r ≡ outcome (command self (Command.retire id)) ⌝ }
@@ -70,6 +279,136 @@ impl Kernel {
             };
         }
         self.nodes[id] = model::retired_node(node);
+        Outcome {
+            kernel: self,
+            answer: Answer::Done,
+        }
+    }
+
+    // begin_cleanup: an Unloading component that no live link has as provider starts restoring.
+    pub fn begin_cleanup(mut self, id: usize) -> Outcome
+        ensures { λ r. ⌜ r ≡ outcome (command self (Command.beginCleanup id)) ⌝ }
+    {
+        if !self.sound() {
+            return Outcome {
+                kernel: self,
+                answer: Answer::Refused(Error::Damaged),
+            };
+        }
+        if 64 <= id {
+            return Outcome {
+                kernel: self,
+                answer: Answer::Refused(Error::Unknown),
+            };
+        }
+        let node = self.nodes[id];
+        if !node.present {
+            return Outcome {
+                kernel: self,
+                answer: Answer::Refused(Error::Unknown),
+            };
+        }
+        let phase = node.phase;
+        if !model::is_unloading(phase) | node.restoring {
+            return Outcome {
+                kernel: self,
+                answer: Answer::Refused(Error::InvalidState),
+            };
+        }
+        let links = self.links;
+        let linked = self.link_count;
+        if scans::relies_in(links, linked, id) {
+            return Outcome {
+                kernel: self,
+                answer: Answer::Refused(Error::Relied),
+            };
+        }
+        self.nodes[id] = model::restoring_node(node);
+        Outcome {
+            kernel: self,
+            answer: Answer::Done,
+        }
+    }
+
+    // finish_cleanup: a restoring component becomes Inactive, and its links dead.
+    pub fn finish_cleanup(mut self, id: usize) -> Outcome
+        ensures { λ r. ⌜ r ≡ outcome (command self (Command.finishCleanup id)) ⌝ }
+    {
+        if !self.sound() {
+            return Outcome {
+                kernel: self,
+                answer: Answer::Refused(Error::Damaged),
+            };
+        }
+        if 64 <= id {
+            return Outcome {
+                kernel: self,
+                answer: Answer::Refused(Error::Unknown),
+            };
+        }
+        let node = self.nodes[id];
+        if !node.present {
+            return Outcome {
+                kernel: self,
+                answer: Answer::Refused(Error::Unknown),
+            };
+        }
+        if !node.restoring {
+            return Outcome {
+                kernel: self,
+                answer: Answer::Refused(Error::InvalidState),
+            };
+        }
+        let links = self.links;
+        let linked = self.link_count;
+        self.links = edits::dead_links(links, linked, id);
+        self.nodes[id] = model::restored_node(node);
+        Outcome {
+            kernel: self,
+            answer: Answer::Done,
+        }
+    }
+
+    // remove: a retired and Inactive component without a present child is no longer present.
+    pub fn remove(mut self, id: usize) -> Outcome
+        ensures { λ r. ⌜ r ≡ outcome (command self (Command.remove id)) ⌝ }
+    {
+        if !self.sound() {
+            return Outcome {
+                kernel: self,
+                answer: Answer::Refused(Error::Damaged),
+            };
+        }
+        if 64 <= id {
+            return Outcome {
+                kernel: self,
+                answer: Answer::Refused(Error::Unknown),
+            };
+        }
+        let node = self.nodes[id];
+        if !node.present {
+            return Outcome {
+                kernel: self,
+                answer: Answer::Refused(Error::Unknown),
+            };
+        }
+        let phase = node.phase;
+        let inactive = model::is_inactive(phase);
+        if !(node.retired & inactive) {
+            return Outcome {
+                kernel: self,
+                answer: Answer::Refused(Error::InvalidState),
+            };
+        }
+        let nodes = self.nodes;
+        let count = self.node_count;
+        if scans::has_child(nodes, count, id) {
+            return Outcome {
+                kernel: self,
+                answer: Answer::Refused(Error::Children),
+            };
+        }
+        self.nodes[id] = model::absent_node(node);
         Outcome {
             kernel: self,
             answer: Answer::Done,

@@ -7,3 +7,4 @@ pub mod Filled
 pub mod Resolving
 pub mod Marking
 pub mod Distinct
+pub mod Parents

@@ -6,6 +6,7 @@ use mathlib.Core.Option.{Option, none, some}
 use Prim.Native.Nat.{_<_, _≤_, ℕ}
 use lib.ListN.{length}
 use Rattle.model.specs.declared.Binding.{Binding}
+use Rattle.model.specs.declared.Link.{Link}
 use Rattle.model.specs.declared.Node.{Node}
 use Rattle.scans.specs.declared.CommittedBindings.{CommittedBindings}
 use Rattle.scans.specs.declared.Identities.{Identities}
@@ -13,6 +14,7 @@ use Rattle.scans.specs.declared.NodeFlags.{NodeFlags}
 use Rattle.scans.specs.declared.TargetBindings.{TargetBindings}
 use Rattle.model.specs.Lists.{padded}
 use Rattle.model.specs.Records.{blankBinding, isInstalled, isProviding, isServing}
+use Rattle.model.specs.Tables.{Tables}
 
 -- present; installed; serving; providing: of each node
 abbrev pub flagsOf : List Node → NodeFlags
@@ -30,6 +32,10 @@ targetBindings (some bs) = record { bindings = padded 256 blankBinding bs; count
 -- the bindings of a consumer's live links in an array
 abbrev pub committedBindings : List Binding → CommittedBindings
 committedBindings bs = record { bindings = padded 512 blankBinding bs; count = length bs }
+
+-- the tables that update_node reads; it asks nothing of declarations
+abbrev pub nodesAndLinks : List Node → List Link → Tables
+nodesAndLinks ns ls = record { nodes = ns; declarations = []; links = ls }
 
 -- r is the count, or the size where that is less
 pub record AtMost (count size r : ℕ) : Type 0 where

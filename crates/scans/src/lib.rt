@@ -7,16 +7,19 @@ ghost use Prim.Native.Nat.{ℕ, _≤_};
 ghost use lib.ListN.{length, take, drop};
 ghost use Rattle.model.specs.Lists.{all, any, allAt, keep, places, padded};
 ghost use Rattle.model.specs.Records.{isBlankNode, isBlankDeclaration, isBlankLink, isChildOf, isProviding};
-ghost use Rattle.model.specs.Soundness.{nodeOk, hasOwner, sameOwner, isDeclaration, linkOk, ordered, linksTo, isCovered};
-ghost use Rattle.model.specs.Answers.{resolution};
-ghost use Rattle.model.specs.UpdateNode.{blocks};
+ghost use Rattle.model.specs.Soundness.{parentOk, nodeOk, hasOwner, sameOwner, isDeclaration, linkOk, ordered, linksTo, isCovered};
+ghost use Rattle.model.specs.Answers.{answer, resolution};
+ghost use Rattle.model.specs.Refusals.{Reply, first, orElse};
+ghost use Rattle.model.specs.UpdateNode.{blocks, updateTests};
 ghost use Rattle.model.specs.Interface.{listed, distinct, takenBy, reliesOn};
 ghost use Rattle.model.specs.Lifecycle.{relies};
 ghost use Rattle.model.specs.Resolution.{resolve, dependencyPorts, bindPorts, committed};
 ghost use Rattle.scans.specs.Columns.{declarationsOf, linksOf, flag, endsBelow};
-ghost use Rattle.scans.specs.Answers.{flagsOf, identities, targetBindings, committedBindings, AtMost};
+ghost use Rattle.scans.specs.Answers.{flagsOf, identities, targetBindings, committedBindings, nodesAndLinks, AtMost};
+use model::Answer;
 use model::Binding;
 use model::Declaration;
+use model::Error;
 use model::Link;
 use model::Node;
 use model::Parent;
@@ -815,4 +818,59 @@ pub fn check_provisions(
         i += 1;
     }
     ok
+}
+
+// Whether a parent, if any, is present and smaller than this identity.
+pub fn parent_ok(nodes: [Node; 64], count: usize, id: usize, parent: Parent) -> bool
+    ensures { λ r. ⌜ r ≡ parentOk (take count nodes) id parent ⌝ }
+{
+    let Parent::Of(p) = parent else {
+        return true;
+    };
+    let end = at_most(count, 64);
+    if id <= p {
+        return false;
+    }
+    if end <= p {
+        return false;
+    }
+    let above = nodes[p];
+    above.present
+}
+
+// update_node: whether this node may be written for this identity. It answers only; the command that asks stores the node.
+pub fn update_node(
+    nodes: [Node; 64],
+    issued: usize,
+    links: [Link; 512],
+    linked: usize,
+    id: usize,
+    node: Node,
+) -> Answer
+    ensures { λ r. ⌜ r ≡ answer (orElse (first (updateTests (nodesAndLinks (take issued nodes) (take linked links)) id node)) Reply.done) ⌝ }
+{
+    let end = at_most(issued, 64);
+    if end <= id {
+        return Answer::Refused(Error::Unknown);
+    }
+    let old = nodes[id];
+    if !old.present {
+        return Answer::Refused(Error::Unknown);
+    }
+    if !model::is_consistent(node) {
+        return Answer::Refused(Error::InvalidState);
+    }
+    let parent = node.parent;
+    let fine = parent_ok(nodes, issued, id, parent);
+    if node.present & !fine {
+        return Answer::Refused(Error::Unknown);
+    }
+    let child = has_child(nodes, issued, id);
+    if !node.present & child {
+        return Answer::Refused(Error::Children);
+    }
+    if blocked(links, linked, id, node) {
+        return Answer::Refused(Error::Relied);
+    }
+    Answer::Done
 }

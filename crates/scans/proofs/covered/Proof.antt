@@ -12,7 +12,6 @@ use borrow.Author.Tests.{not-false, not-true}
 use Rattle.model.specs.declared.Declaration.{Declaration}
 use Rattle.model.specs.Lists.{all}
 use Rattle.model.specs.Soundness.{isCovered}
-use Rattle.model.specs.Tables.{installed}
 use Rattle.scans.proofs.Laws.Columns.{rows-most, rows-next}
 use Rattle.scans.proofs.Laws.Scan.{all-done, all-hit, all-next, part-done}
 use Rattle.scans.specs.Columns.{declarationAt, declarationsOf, flag, linksOf}

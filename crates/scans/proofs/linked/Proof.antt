@@ -7,7 +7,6 @@ use lib.ListN.{take}
 use lib.Seq.{slice}
 use borrow.Author.Needs.{needs}
 use Rattle.model.specs.Lists.{any}
-use Rattle.model.specs.Samples.{port}
 use Rattle.model.specs.Soundness.{linksTo}
 use Rattle.scans.proofs.Laws.Columns.{rows-most, rows-next}
 use Rattle.scans.proofs.Laws.Scan.{any-done, any-hit, any-next, part-done}

@@ -10,7 +10,6 @@ use borrow.Author.Tests.{not-false, not-true}
 use Rattle.model.specs.Lists.{all, conj}
 use Rattle.model.specs.Records.{portOf}
 use Rattle.model.specs.Soundness.{declares, linkOk, linkTests}
-use Rattle.model.specs.Tables.{installed, serving}
 use Rattle.scans.proofs.Laws.Columns.{rows-most, rows-next}
 use Rattle.scans.proofs.Laws.Scan.{all-done, all-hit, all-next, part-done}
 use Rattle.scans.specs.Columns.{declarationsOf, flag, linkAt, linksOf, rowsFrom}

@@ -4,7 +4,6 @@ use Prim.Native.Nat.{_-_, _<_, _≤_}
 use native.Mathlib.Omega.{arith}
 use borrow.Author.Needs.{needs}
 use Rattle.model.specs.Records.{blankNode, isInstalled, isProviding, isServing}
-use Rattle.model.specs.Tables.{installed, present, providing, serving}
 use Rattle.scans.proofs.Laws.Filled.{Mapped, filled-none, mapped-done, mapped-next}
 use Rattle.scans.proofs.node_flags.Statement.{statement}
 use Rattle.scans.proofs.node_flags.Tie as tie

@@ -3,18 +3,17 @@ use mathlib.Core.Path.{_∙_, _≡_, ap, refl, sym}
 use mathlib.Core.Bool.{Bool, _&&_, false, true}
 use mathlib.Core.List.{List}
 use mathlib.Core.Logic.{⊎-elim}
-use Prim.Native.Nat.{_-_, _<_, _≤_, ℕ}
+use Prim.Native.Nat.{_-_, ℕ}
 use native.Mathlib.Omega.{arith}
 use lib.ListN.{getD, take}
-use lib.Seq.{getD-take, slice}
+use lib.Seq.{slice}
 use borrow.Author.Needs.{needs}
-use borrow.Author.Tests.{le-ltb, lt-ltb, not-false, not-true}
+use borrow.Author.Tests.{not-false, not-true}
 use Rattle.model.specs.declared.Node.{Node}
-use Rattle.model.specs.declared.Parent.{Parent}
 use Rattle.model.specs.Lists.{_⇒_, allAt}
 use Rattle.model.specs.Records.{blankNode, isConsistent}
 use Rattle.model.specs.Soundness.{nodeOk, parentOk}
-use Rattle.model.specs.Tables.{nodeAt, present}
+use Rattle.scans.proofs.Laws.Parents.{parent-early, parent-late}
 use Rattle.scans.proofs.Laws.Scan.{allAt-done, allAt-hit, allAt-next, part-done, part-next, take-most}
 use Rattle.scans.proofs.nodes_ok.Statement.{statement}
 use Rattle.scans.proofs.nodes_ok.Tie as tie
@@ -23,16 +22,6 @@ use Rattle.scans.proofs.nodes_ok.Tie as tie
 node-ok : (ns : List Node) (i : ℕ) (n : Node) (c b r : Bool) → isConsistent n ≡ c → n .present ≡ b → parentOk ns i (n .parent) ≡ r → nodeOk ns i n ≡ c && (b ⇒ r)
 unfolding nodeOk
 node-ok ns i n c b r e f g = λ k. e k && (f k ⇒ g k)
-
--- a parent that is not smaller
-parent-late : (ns : List Node) (i p : ℕ) (q : Parent) → q ≡ Parent.Of p → i ≤ p → parentOk ns i q ≡ false
-unfolding parentOk
-parent-late ns i p q e l = ap (parentOk ns i) e ∙ ap (λ (b : Bool). b && present ns p) (le-ltb p i l)
-
--- a smaller parent of a node below the count
-parent-early : (count : ℕ) (xs : List Node) (i p : ℕ) (q : Parent) (b : Bool) → q ≡ Parent.Of p → p < i → i < count → (getD xs p blankNode) .present ≡ b → parentOk (take count xs) i q ≡ b
-unfolding parentOk nodeAt
-parent-early count xs i p q b e l m h = ap (parentOk (take count xs) i) e ∙ ap (λ (a : Bool). a && present (take count xs) p) (lt-ltb p i l) ∙ ap (λ (n : Node). n .present) (getD-take count xs p blankNode (omega arith)) ∙ h
 
 abbrev Inv-loop : tie.InvT-loop
 Inv-loop count nodes end i₀ i = allAt (nodeOk (take count nodes)) i (slice i end nodes) ≡ allAt (nodeOk (take count nodes)) 0 (take count nodes)

@@ -7,9 +7,7 @@ use lib.ListN.{take}
 use lib.Seq.{slice}
 use borrow.Author.Needs.{needs}
 use Rattle.model.specs.Lists.{all, conj}
-use Rattle.model.specs.Samples.{port}
 use Rattle.model.specs.Soundness.{rivalTests, sameOwner}
-use Rattle.model.specs.Tables.{present}
 use Rattle.scans.proofs.Laws.Columns.{rows-most, rows-next}
 use Rattle.scans.proofs.Laws.Implications.{imp-broken, imp-kept}
 use Rattle.scans.proofs.Laws.Scan.{all-done, all-hit, all-next, part-done}

@@ -9,8 +9,6 @@ use borrow.Author.Needs.{needs}
 use Rattle.model.specs.declared.Declaration.{Declaration}
 use Rattle.model.specs.Answers.{resolution}
 use Rattle.model.specs.Resolution.{offers, resolve}
-use Rattle.model.specs.Samples.{port}
-use Rattle.model.specs.Tables.{providing}
 use Rattle.scans.proofs.Laws.Columns.{rows-most, rows-next}
 use Rattle.scans.proofs.Laws.Resolving.{resolve-done, resolve-hit, resolve-next}
 use Rattle.scans.proofs.Laws.Scan.{part-done}

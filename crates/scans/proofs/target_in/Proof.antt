@@ -8,14 +8,11 @@ use native.Mathlib.Omega.{arith}
 use lib.ListN.{length, length-append, take}
 use lib.Seq.{slice}
 use borrow.Author.Needs.{needs}
-use types.Part.{whole}
 use Rattle.model.specs.declared.Binding.{Binding}
 use Rattle.model.proofs.Laws.Arrays.{snoc-padded}
-use Rattle.model.specs.Lifecycle.{bindings}
 use Rattle.model.specs.Lists.{padded}
 use Rattle.model.specs.Records.{bindingOf, blankBinding}
 use Rattle.model.specs.Resolution.{bindPorts, dependencyPorts, isDependencyOf, resolve}
-use Rattle.model.specs.Tables.{providing}
 use Rattle.scans.proofs.Laws.Columns.{rows-most, rows-next}
 use Rattle.scans.proofs.Laws.Resolving.{after, after-nothing, bind-done, bind-none, bind-skip, bind-take, found, not-found}
 use Rattle.scans.proofs.Laws.Scan.{part-done}

@@ -1,0 +1,63 @@
+// Compaction.
+ghost use mathlib.Core.Path.{_≡_};
+ghost use Rattle.kernel.specs.Outcomes.{command, compactionOutcome};
+ghost use Rattle.model.specs.Commands.{Command};
+use crate::CompactionOutcome;
+use crate::Kernel;
+use model::Answer;
+use model::Error;
+
+impl Kernel {
+    // compact_bindings: keeps the live links.
+    pub fn compact_bindings(mut self) -> CompactionOutcome
+        ensures { λ r. ⌜ r ≡ compactionOutcome (command self Command.compactBindings) ⌝ }
+    {
+        if !self.sound() {
+            return CompactionOutcome {
+                kernel: self,
+                answer: Answer::Refused(Error::Damaged),
+                removed: 0,
+            };
+        }
+        let links = self.links;
+        let count = self.link_count;
+        let kept = edits::live_links(links, count);
+        let n = kept.count;
+        let live = kept.links;
+        self.links = live;
+        self.link_count = n;
+        CompactionOutcome {
+            kernel: self,
+            answer: Answer::Done,
+            removed: count - n,
+        }
+    }
+
+    // compact_declarations: keeps the declarations of present owners.
+    pub fn compact_declarations(mut self) -> CompactionOutcome
+        ensures { λ r. ⌜ r ≡ compactionOutcome (command self Command.compactDeclarations) ⌝ }
+    {
+        if !self.sound() {
+            return CompactionOutcome {
+                kernel: self,
+                answer: Answer::Refused(Error::Damaged),
+                removed: 0,
+            };
+        }
+        let nodes = self.nodes;
+        let declarations = self.declarations;
+        let count = self.declaration_count;
+        let flags = scans::node_flags(nodes);
+        let present = flags.present;
+        let kept = edits::owned_declarations(declarations, count, present);
+        let n = kept.count;
+        let owned = kept.declarations;
+        self.declarations = owned;
+        self.declaration_count = n;
+        CompactionOutcome {
+            kernel: self,
+            answer: Answer::Done,
+            removed: count - n,
+        }
+    }
+}
