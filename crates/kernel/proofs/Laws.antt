@@ -8,3 +8,4 @@ pub mod Target
 pub mod Iteration
 pub mod Declared
 pub mod Begin
+pub mod Inserted

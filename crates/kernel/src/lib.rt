@@ -6,6 +6,7 @@ use model::Link;
 use model::Node;
 
 mod compaction;
+mod insertion;
 mod interface;
 mod lifecycle;
 mod observers;

@@ -1,0 +1,91 @@
+// Insertion.
+ghost use mathlib.Core.Path.{_≡_};
+ghost use Rattle.kernel.specs.Fields.{ask};
+ghost use Rattle.kernel.specs.Outcomes.{command, insertOutcome};
+ghost use Rattle.model.specs.Answers.{answer};
+ghost use Rattle.model.specs.Commands.{Command};
+ghost use Rattle.model.specs.Insertion.{checkInsert};
+ghost use Rattle.model.specs.Refusals.{Reply};
+ghost use Rattle.model.specs.Sizes.{controller};
+use crate::InsertOutcome;
+use crate::Kernel;
+use model::Answer;
+use model::Error;
+use model::InsertAnswer;
+use model::Parent;
+use model::PortList;
+
+impl Kernel {
+    // check_insert: what insert would answer, without its identity.
+    pub fn check_insert(
+        self,
+        parent: Parent,
+        dependencies: PortList,
+        provisions: PortList,
+    ) -> Answer
+        ensures { λ r. ⌜ r ≡ answer (ask self (Reply.refused Error.Damaged) (λ T. checkInsert controller T parent dependencies provisions)) ⌝ }
+    {
+        if !self.sound() {
+            return Answer::Refused(Error::Damaged);
+        }
+        let wanted = dependencies.count;
+        let offered = provisions.count;
+        if (32 < wanted) | (32 < offered) {
+            return Answer::Refused(Error::Capacity);
+        }
+        let issued = self.node_count;
+        if 64 <= issued {
+            return Answer::Refused(Error::Capacity);
+        }
+        let nodes = self.nodes;
+        let flags = scans::node_flags(nodes);
+        let present = flags.present;
+        if let Parent::Of(p) = parent {
+            if !scans::flag_at(&present, p) {
+                return Answer::Refused(Error::Unknown);
+            }
+        }
+        let declarations = self.declarations;
+        let count = self.declaration_count;
+        let free = scans::check_provisions(provisions, declarations, count, present);
+        if !(free & scans::distinct_ports(dependencies)) {
+            return Answer::Refused(Error::Conflict);
+        }
+        if 256 < count + wanted + offered {
+            return Answer::Refused(Error::Capacity);
+        }
+        Answer::Done
+    }
+
+    // insert: a new component, with the node count as its identity.
+    pub fn insert(
+        mut self,
+        parent: Parent,
+        dependencies: PortList,
+        provisions: PortList,
+    ) -> InsertOutcome
+        ensures { λ r. ⌜ r ≡ insertOutcome (command self (Command.insert parent dependencies provisions)) ⌝ }
+    {
+        let checked = self.check_insert(parent, dependencies, provisions);
+        if let Answer::Refused(error) = checked {
+            return InsertOutcome {
+                kernel: self,
+                answer: InsertAnswer::Refused(error),
+            };
+        }
+        let id = self.node_count;
+        let wanted = dependencies.count;
+        let offered = provisions.count;
+        let declarations = self.declarations;
+        let count = self.declaration_count;
+        let more = edits::append_ports(declarations, count, id, dependencies, false);
+        self.declarations = edits::append_ports(more, count + wanted, id, provisions, true);
+        self.declaration_count = count + wanted + offered;
+        self.nodes[id] = model::new_node(parent);
+        self.node_count = id + 1;
+        InsertOutcome {
+            kernel: self,
+            answer: InsertAnswer::Done(id),
+        }
+    }
+}
