@@ -15,3 +15,4 @@ pub mod Resolution
 pub mod Layouts
 pub mod Kernels
 pub mod Samples
+pub mod Upstream

@@ -6,10 +6,11 @@ use mathlib.Core.List.{List, [], _∷_}
 use mathlib.Core.Option.{Option, none, some}
 use Prim.Native.Nat.{ℕ}
 use native.Mathlib.Omega.{arith}
-use contract.Running.{tables}
 use Rattle.model.specs.declared.Error.{Error}
+use Rattle.model.proofs.Laws.Booleans.{and-l, and-r}
 use Rattle.model.specs.Commands.{Command, Outcome, report, result, settle, step, tests}
-use Rattle.model.specs.Refusals.{Reply, first}
+use Rattle.model.specs.Lists.{all}
+use Rattle.model.specs.Refusals.{Reply, accepted, first}
 use Rattle.model.specs.Sizes.{Sizes}
 use Rattle.model.specs.Tables.{Tables}
 
@@ -51,3 +52,30 @@ step-cases P S T c p f = go (first (tests S T c)) refl
 -- what holds of the tables before, and of those that an accepted command leaves, holds after it
 pub step-keeps : (P : Tables → Type 0) (S : Sizes) (T : Tables) (c : Command) → P T → (Passed (tests S T c) → P (result T c)) → P ((step S T c) .tables)
 step-keeps P S T c p f = step-cases (λ o. P (o .tables)) S T c (λ e h. p) f
+
+-- the refusal of the first test that applies is one of the row
+pub first-among : (ts : List (Bool × Error)) (e : Error) (f : Error → Bool) → all (λ (t : Bool × Error). f (t .1)) ts ≡ true → first ts ≡ some e → f e ≡ true
+unfolding all first
+first-among [] e f h q = let z : _≡_ {A = ℕ} 0 1 = cc in absurd (omega arith)
+first-among (t ∷ ts) e f h q = go (t .0) refl (λ x. first-among ts e f (and-r (f (t .1)) _ h) x)
+  where
+    go : (b : Bool) → t .0 ≡ b → (first ts ≡ some e → f e ≡ true) → f e ≡ true
+    go true x g = let y : t .1 ≡ e = cc (rw x at q) in rw y at (and-l (f (t .1)) _ h)
+    go false x g = g (rw x at q)
+
+-- what a command replies when no test applies is no refusal
+pub report-accepts : (T : Tables) (c : Command) → accepted (report T c) ≡ true
+report-accepts T (Command.insert q ds ps) = refl
+report-accepts T (Command.declareProvision id p) = refl
+report-accepts T (Command.releaseProvision id p) = refl
+report-accepts T (Command.configurePendingDependencies id l) = refl
+report-accepts T (Command.begin id) = refl
+report-accepts T (Command.finish id) = refl
+report-accepts T (Command.leave id) = refl
+report-accepts T (Command.leaveIfChanged id) = refl
+report-accepts T (Command.retire id) = refl
+report-accepts T (Command.beginCleanup id) = refl
+report-accepts T (Command.finishCleanup id) = refl
+report-accepts T (Command.remove id) = refl
+report-accepts T Command.compactBindings = refl
+report-accepts T Command.compactDeclarations = refl

@@ -4,12 +4,11 @@ use mathlib.Core.Bool.{Bool, _&&_, cond, false, not, true}
 use mathlib.Core.List.{List, [], _∷_}
 use mathlib.Core.Option.{Option, none, some}
 use Prim.Native.Nat.{ℕ}
-use native.Mathlib.Omega.{arith}
 use lib.Dec.{eqb}
 use Rattle.model.specs.declared.Binding.{Binding}
 use Rattle.model.specs.declared.Error.{Error}
-use Rattle.model.proofs.Laws.Booleans.{and-l, and-r, clash}
-use Rattle.model.proofs.Laws.Refusals.{Passed, of-passed, step-cases}
+use Rattle.model.proofs.Laws.Booleans.{clash}
+use Rattle.model.proofs.Laws.Refusals.{Passed, first-among, of-passed, report-accepts, step-cases}
 use Rattle.model.proofs.Theorems.Commands.{empty-sound, run-sound, step-sound}
 use Rattle.model.proofs.Theorems.Iteration.{iteration-rule}
 use Rattle.model.proofs.Theorems.Layouts.{laid-out, layout-sound, read-back}
@@ -87,33 +86,8 @@ undamaged S T (Command.remove id) = refl
 undamaged S T Command.compactBindings = refl
 undamaged S T Command.compactDeclarations = refl
 
-first-among : (ts : List (Bool × Error)) (e : Error) (f : Error → Bool) → all (λ (t : Bool × Error). f (t .1)) ts ≡ true → first ts ≡ some e → f e ≡ true
-unfolding all first
-first-among [] e f h q = let z : _≡_ {A = ℕ} 0 1 = cc in absurd (omega arith)
-first-among (t ∷ ts) e f h q = go (t .0) refl (λ x. first-among ts e f (and-r (f (t .1)) _ h) x)
-  where
-    go : (b : Bool) → t .0 ≡ b → (first ts ≡ some e → f e ≡ true) → f e ≡ true
-    go true x g = let y : t .1 ≡ e = cc (rw x at q) in rw y at (and-l (f (t .1)) _ h)
-    go false x g = g (rw x at q)
-
 report-accepted : (T : Tables) (c : Command) (e : Error) → report T c ≡ Reply.refused e → ⊥
-report-accepted T c e h = clash {A = ⊥} (accepted (report T c)) (yes-accepted c) (rw h)
-  where
-    yes-accepted : (c : Command) → accepted (report T c) ≡ true
-    yes-accepted (Command.insert q ds ps) = refl
-    yes-accepted (Command.declareProvision id p) = refl
-    yes-accepted (Command.releaseProvision id p) = refl
-    yes-accepted (Command.configurePendingDependencies id l) = refl
-    yes-accepted (Command.begin id) = refl
-    yes-accepted (Command.finish id) = refl
-    yes-accepted (Command.leave id) = refl
-    yes-accepted (Command.leaveIfChanged id) = refl
-    yes-accepted (Command.retire id) = refl
-    yes-accepted (Command.beginCleanup id) = refl
-    yes-accepted (Command.finishCleanup id) = refl
-    yes-accepted (Command.remove id) = refl
-    yes-accepted Command.compactBindings = refl
-    yes-accepted Command.compactDeclarations = refl
+report-accepted T c e h = clash {A = ⊥} (accepted (report T c)) (report-accepts T c) (rw h)
 
 step-undamaged : (S : Sizes) (T : Tables) (c : Command) → (step S T c) .reply ≡ Reply.refused Error.Damaged → ⊥
 step-undamaged S T c = step-cases (λ o. o .reply ≡ Reply.refused Error.Damaged → ⊥) S T c (λ e h q. let d : e ≡ Error.Damaged = cc in clash {A = ⊥} false (first-among (tests S T c) Error.Damaged (λ x. not (eqb (number x) (number Error.Damaged))) (undamaged S T c) (rw d at h)) refl) (λ p q. report-accepted T c Error.Damaged q)

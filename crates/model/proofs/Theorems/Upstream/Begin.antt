@@ -1,0 +1,106 @@
+-- begin: when it is accepted, and that the component is then coherent, with what target gave committed.
+use mathlib.Core.Path.{_∙_, _≡_, ap, refl, subst, sym}
+use mathlib.Core.Bool.{false, not, true}
+use mathlib.Core.List.{List, List·Memᴰ, List·Memᴰ·append-cases, Memᴰ·append-right, _++_, map}
+use mathlib.Core.Option.{some}
+use mathlib.Core.Logic.{_↔_, _⊎_, inl, inr}
+use Prim.Native.Nat.{_+_, _≤_, ℕ}
+use lib.ListN.{length, set}
+use borrow.Author.Tests.{eqb-false, le-ltb, ltb-false, ne-eqb}
+use Rattle.model.specs.declared.Binding.{Binding}
+use Rattle.model.specs.declared.Link.{Link}
+use Rattle.model.specs.declared.Node.{Node}
+use Rattle.model.specs.declared.Port.{Port}
+use Rattle.model.proofs.Laws.Booleans.{clash, not-f}
+use Rattle.model.proofs.Laws.Committed.{committed-append, committed-idle, fresh-mine}
+use Rattle.model.proofs.Laws.Facts.{facts}
+use Rattle.model.proofs.Laws.Lists.{in-map, is-some, map-in}
+use Rattle.model.proofs.Laws.Nodes.{present-lt}
+use Rattle.model.proofs.Laws.Refusals.{Passed}
+use Rattle.model.proofs.Theorems.Commands.{step-sound}
+use Rattle.model.proofs.Theorems.Points.{at-node, node-at}
+use Rattle.model.proofs.Theorems.Upstream.Frames.{declarations-kept, others-kept, subject-after}
+use Rattle.model.proofs.Theorems.Upstream.Observed.{Available, BindingIsTarget, Coherent, CommittedFrom, CompleteTarget, coherent-target, complete-target, target-available}
+use Rattle.model.proofs.Theorems.Upstream.Replies.{accepted-step, accepts}
+use Rattle.model.specs.Commands.{Command, step}
+use Rattle.model.specs.Lifecycle.{beginTests, begunNode, bindings, phaseAt}
+use Rattle.model.specs.Records.{isInactive, isLoading, liveLink}
+use Rattle.model.specs.Refusals.{accepted}
+use Rattle.model.specs.Resolution.{Provides, committed, target}
+use Rattle.model.specs.Sizes.{Sizes, lastGeneration}
+use Rattle.model.specs.Soundness.{sound}
+use Rattle.model.specs.Tables.{Tables, nodeAt, notInactive}
+
+pub record BeginEnabled (S : Sizes) (T : Tables) (id : ℕ) : Type 0 where
+  pub inactive : isInactive (phaseAt T id) ≡ true
+  pub available : Available T id
+  pub generation : (nodeAt (T .nodes) id) .generation ≡ lastGeneration → ⊥
+  -- what the sizes add
+  pub space : length (T .links) + length (bindings (target T id)) ≤ S .links
+
+module _ (S : Sizes) (T : Tables) (id : ℕ) (s : sound S T ≡ true) where
+  abbrev beginning : Command
+  beginning = Command.begin id
+
+  pub begin-accepts : (accepted ((step S T beginning) .reply) ≡ true) ↔ BeginEnabled S T id
+  begin-accepts = (
+    λ h.
+        let p : Passed (beginTests S T id) = accepts S T beginning .0 h in
+        record { inactive = not-f _ (p .1 .0); available = target-available S T s id .0 (p .1 .1 .1 .1 .0); generation = eqb-false _ _ (p .1 .1 .1 .0); space = ltb-false _ _ (p .1 .1 .1 .1 .1 .0) },
+    λ k. accepts S T beginning .1 (rw (k .available .there), (rw (k .inactive), (k .available .kept, (ne-eqb _ _ (k .generation), (target-available S T s id .1 (k .available), (le-ltb _ _ (k .space), tt)))))),
+  )
+
+  -- committed_from, with the tables before as source
+  pub begun-committed : accepted ((step S T beginning) .reply) ≡ true → CommittedFrom T ((step S T beginning) .tables) id
+  begun-committed h =
+      let p : Passed (beginTests S T id) = accepts S T beginning .0 h in
+      let (bs, e) = is-some (target T id) (p .1 .1 .1 .1 .0) in
+      rw (accepted-step S T beginning p, e) (go bs (complete-target S T s id bs e) (rw (not-f (isInactive (phaseAt T id)) (p .1 .0))))
+    where
+      old : (bs : List Binding) → CompleteTarget T id bs → notInactive (T .nodes) id ≡ false → (l : Link) → l .live ≡ true → l .consumer ≡ id → List·Memᴰ l (T .links) ⊎ List·Memᴰ l (map (liveLink id) bs) → BindingIsTarget T id (l .binding)
+      old bs c i l v x (inl m) = clash _ (rw x at (facts S T s .safe .live l m v .consumer-installed)) i
+      old bs c i l v x (inr m) = let (b, n, q) = in-map (liveLink id) bs m in subst (λ (z : Link). BindingIsTarget T id (z .binding)) (sym q) (c .targets b n)
+
+      go : (bs : List Binding) → CompleteTarget T id bs → notInactive (T .nodes) id ≡ false → CommittedFrom T (record { nodes = set (T .nodes) id (begunNode (nodeAt (T .nodes) id)); declarations = T .declarations; links = T .links ++ map (liveLink id) bs }) id
+      go bs c i = record {
+        there = c .there;
+        kept = c .kept;
+        targets = λ l m v x. old bs c i l v x (List·Memᴰ·append-cases (T .links) m);
+        covers = λ p m. let (b, n, x) = c .covers p m in record { link = liveLink id b; among = Memᴰ·append-right (T .links) (map-in (liveLink id) n); is-live = refl; of-consumer = refl; of-port = sym x };
+      }
+
+  -- more: what is committed after is the target before, as a list
+  pub begun-target : accepted ((step S T beginning) .reply) ≡ true → target T id ≡ some (committed ((step S T beginning) .tables .links) id)
+  begun-target h =
+      let p : Passed (beginTests S T id) = accepts S T beginning .0 h in
+      let (bs, e) = is-some (target T id) (p .1 .1 .1 .1 .0) in
+      let i : notInactive (T .nodes) id ≡ false = rw (not-f (isInactive (phaseAt T id)) (p .1 .0)) in
+      rw (accepted-step S T beginning p, e) (ap some (sym (committed-append (T .links) (map (liveLink id) bs) id ∙ rw (committed-idle T id (facts S T s .safe) i) (fresh-mine bs id))))
+
+  abbrev U : Tables
+  U = (step S T beginning) .tables
+
+  -- iteration_enabled after
+  pub begun-enabled : accepted ((step S T beginning) .reply) ≡ true → (isLoading (phaseAt U id) ≡ true) × Coherent U id
+  begun-enabled h = (
+    ap (λ (n : Node). isLoading (n .phase)) now,
+    coherent-target S U (step-sound S T beginning s) id (ap (λ (n : Node). not (isInactive (n .phase))) now) .0 (target-available S U (step-sound S T beginning s) id .1 (record {
+      there = ap (λ (n : Node). n .present) now ∙ k .available .there;
+      kept = ap (λ (n : Node). n .retired) now ∙ k .available .kept;
+      provided = λ p m. let (o, w) = k .available .provided p (rw (declarations-kept S T beginning refl) at m) in (o, still p o w (other p o w));
+    })),
+  )
+    where
+      k : BeginEnabled S T id
+      k = begin-accepts .0 h
+
+      now : nodeAt (U .nodes) id ≡ begunNode (nodeAt (T .nodes) id)
+      now = subject-after S T beginning h
+
+      other : (p : Port) (o : ℕ) → Provides T p o → o ≡ id → ⊥
+      other p o w e = clash {A = ⊥} (isInactive (phaseAt T id)) (k .inactive) (subst (λ (i : ℕ). isInactive (phaseAt T i) ≡ false) e (ap (λ (n : Node). isInactive (n .phase)) (at-node (T .nodes) o (w .0) (w .1)) ∙ ap isInactive (w .3)))
+
+      still : (p : Port) (o : ℕ) → Provides T p o → (o ≡ id → ⊥) → Provides U p o
+      still p o w d =
+          let e : nodeAt (U .nodes) o ≡ w .0 = others-kept S T beginning o d ∙ at-node (T .nodes) o (w .0) (w .1) in
+          (nodeAt (U .nodes) o, node-at (U .nodes) o (present-lt _ _ (ap (λ (n : Node). n .present) e ∙ w .2)), ap (λ (n : Node). n .present) e ∙ w .2, ap (λ (n : Node). n .phase) e ∙ w .3, rw (declarations-kept S T beginning refl) (w .4))

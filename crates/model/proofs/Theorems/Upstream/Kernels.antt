@@ -1,0 +1,30 @@
+-- From tables to kernels: what a command hands back of a sound kernel is sound, and its tables and its reply are those of the step.
+use mathlib.Core.Path.{_∙_, _≡_, ap}
+use mathlib.Core.Bool.{false, true}
+use Rattle.model.proofs.Theorems.Commands.{step-sound}
+use Rattle.model.proofs.Theorems.Layouts.{laid-out, layout-sound, read-back, tables-sound}
+use Rattle.model.proofs.Theorems.Upstream.Replies.{refused-unchanged}
+use Rattle.model.specs.Commands.{Command, step}
+use Rattle.model.specs.Kernels.{commanded}
+use Rattle.model.specs.Layouts.{Layout, Sized, layOut, soundKernel, tablesOf}
+use Rattle.model.specs.Refusals.{accepted}
+use Rattle.model.specs.Sizes.{Sizes}
+
+module _ (S : Sizes) (k : Layout) (c : Command) (h : soundKernel S k ≡ true) where
+  pub commanded-tables : tablesOf ((commanded S k c) .kernel) ≡ (step S (tablesOf k) c) .tables
+  unfolding commanded
+  commanded-tables = rw h (read-back S ((step S (tablesOf k) c) .tables))
+
+  pub commanded-reply : (commanded S k c) .reply ≡ (step S (tablesOf k) c) .reply
+  unfolding commanded
+  commanded-reply = rw h
+
+  -- wf after
+  pub commanded-sound : Sized S k → soundKernel S ((commanded S k c) .kernel) ≡ true
+  unfolding commanded
+  commanded-sound a = rw h (layout-sound S ((step S (tablesOf k) c) .tables) (step-sound S (tablesOf k) c (tables-sound S k a h)))
+
+  -- unchanged, of the kernel
+  pub refused-kernel : Sized S k → accepted ((commanded S k c) .reply) ≡ false → (commanded S k c) .kernel ≡ k
+  unfolding commanded
+  refused-kernel a = rw h (λ q. ap (layOut S) (refused-unchanged S (tablesOf k) c q) ∙ laid-out S k a h)

@@ -1,0 +1,157 @@
+-- resolve, target and committed as the original's contracts speak of them, and coherence.
+use mathlib.Core.Path.{_∙_, _≡_, ap, refl, subst, sym}
+use mathlib.Core.Bool.{_&&_, false, not, true}
+use mathlib.Core.List.{List, List·Memᴰ, List·Memᴰ·head, List·Memᴰ·tail, Memᴰ·cast, [], _∷_}
+use mathlib.Core.Option.{Option, none, some}
+use mathlib.Core.Logic.{_↔_}
+use Prim.Native.Nat.{_<_, suc, zero, ℕ}
+use native.Mathlib.Omega.{arith}
+use lib.ListN.{length, length-map}
+use borrow.Author.Tests.{eq-eqb}
+use Rattle.model.specs.declared.Binding.{Binding}
+use Rattle.model.specs.declared.Link.{Link}
+use Rattle.model.specs.declared.Port.{Port}
+use Rattle.model.proofs.Laws.Booleans.{and-i, and-l, and-r, clash, f-not, not-t}
+use Rattle.model.proofs.Laws.Committed.{live-link-of}
+use Rattle.model.proofs.Laws.Entry.{refuted}
+use Rattle.model.proofs.Laws.Facts.{Linked, LiveOk, facts, not-restoring, port-same, same-port}
+use Rattle.model.proofs.Laws.Lists.{any-in, at-in, in-at, in-keep, in-map, is-some, keep-in, map-in, none-in}
+use Rattle.model.proofs.Laws.Resolution.{Targeted, bound-in, bound-ports, target-bound, target-covers, target-needed, targeted, wants-in}
+use Rattle.model.proofs.Theorems.Points.{at-node, to-present}
+use Rattle.model.proofs.Theorems.Resolution.{resolve-some}
+use Rattle.model.specs.Interface.{distinct, taken, takenBy}
+use Rattle.model.specs.Lists.{any, isNone, keep}
+use Rattle.model.specs.Points.{At}
+use Rattle.model.specs.Records.{dependency, portOf, provision, samePort}
+use Rattle.model.specs.Resolution.{Provides, bindPorts, committed, dependencyPorts, isLiveLinkOf, joined, target}
+use Rattle.model.specs.Sizes.{Sizes}
+use Rattle.model.specs.Soundness.{sound}
+use Rattle.model.specs.Tables.{Tables, nodeAt, notInactive, present}
+
+abbrev pub BindingIsTarget : Tables → ℕ → Binding → Type 0
+BindingIsTarget T id b = Provides T (portOf b) (b .provider) × List·Memᴰ (dependency id (portOf b)) (T .declarations)
+
+-- complete_target
+pub record CompleteTarget (T : Tables) (id : ℕ) (bs : List Binding) : Type 0 where
+  pub there : present (T .nodes) id ≡ true
+  pub kept : (nodeAt (T .nodes) id) .retired ≡ false
+  pub targets : (b : Binding) → List·Memᴰ b bs → BindingIsTarget T id b
+  pub covers : (p : Port) → List·Memᴰ (dependency id p) (T .declarations) → (b : Binding) × List·Memᴰ b bs × (p ≡ portOf b)
+
+-- the opposite of unavailable
+pub record Available (T : Tables) (id : ℕ) : Type 0 where
+  pub there : present (T .nodes) id ≡ true
+  pub kept : (nodeAt (T .nodes) id) .retired ≡ false
+  pub provided : (p : Port) → List·Memᴰ (dependency id p) (T .declarations) → (o : ℕ) × Provides T p o
+
+-- committed_from: T is the source, and U is now
+pub record CommittedFrom (T U : Tables) (id : ℕ) : Type 0 where
+  pub there : present (T .nodes) id ≡ true
+  pub kept : (nodeAt (T .nodes) id) .retired ≡ false
+  pub targets : (l : Link) → List·Memᴰ l (U .links) → l .live ≡ true → l .consumer ≡ id → BindingIsTarget T id (l .binding)
+  pub covers : (p : Port) → List·Memᴰ (dependency id p) (T .declarations) → Linked (U .links) id p
+
+abbrev pub Coherent : Tables → ℕ → Type 0
+Coherent T id = CommittedFrom T T id
+
+-- ---- target
+
+bind-all : (f : Port → Option ℕ) (ps : List Port) → ((p : Port) → List·Memᴰ p ps → (o : ℕ) × (f p ≡ some o)) → isNone (bindPorts f ps) ≡ false
+unfolding bindPorts joined
+bind-all f [] h = refl
+bind-all f (p ∷ ps) h =
+    let (o, e) = h p (List·Memᴰ·head refl) in
+    let (bs, g) = is-some (bindPorts f ps) (bind-all f ps (λ q m. h q (List·Memᴰ·tail m))) in
+    rw (e, g)
+
+-- a binding for each dependency record
+pub target-length : (T : Tables) (id : ℕ) (bs : List Binding) → target T id ≡ some bs → length bs ≡ length (dependencyPorts (T .declarations) id)
+target-length T id bs h = sym (length-map bs portOf) ∙ ap length (bound-ports _ _ bs (targeted T id bs h .is-bound))
+
+module _ (S : Sizes) (T : Tables) (h : sound S T ≡ true) where
+  -- the original's active_provider is not restoring, which soundness gives
+  pub provider-not-restoring : (p : Port) (o : ℕ) → Provides T p o → (nodeAt (T .nodes) o) .restoring ≡ false
+  provider-not-restoring p o w = not-restoring (T .nodes) o _ (facts S T h .safe .nodes o) (rw (at-node (T .nodes) o (w .0) (w .1), w .3))
+
+  pub complete-target : (id : ℕ) (bs : List Binding) → target T id ≡ some bs → CompleteTarget T id bs
+  complete-target id bs e = let t : Targeted T id bs = targeted T id bs e in record {
+    there = t .there;
+    kept = t .kept;
+    targets = λ b m. (resolve-some S T h (portOf b) (b .provider) .0 (bound-in _ _ bs (t .is-bound) b m), target-needed T id bs t b m);
+    covers = target-covers T id bs t;
+  }
+
+  -- there is a target exactly if the component is available
+  pub target-available : (id : ℕ) → (isNone (target T id) ≡ false) ↔ Available T id
+  target-available id = (forth, back)
+    where
+      forth : isNone (target T id) ≡ false → Available T id
+      forth n =
+          let (bs, e) = is-some (target T id) n in
+          let c : CompleteTarget T id bs = complete-target id bs e in
+          record { there = c .there; kept = c .kept; provided = λ p m. let (b, i, x) = c .covers p m in (b .provider, subst (λ (z : Port). Provides T z (b .provider)) (sym x) ((c .targets b i) .0)) }
+
+      back : Available T id → isNone (target T id) ≡ false
+      back a = rw (target-bound T id (rw (a .there, a .kept))) (bind-all _ _ (λ p m. let (o, w) = a .provided p (wants-in (T .declarations) id p m) in (o, resolve-some S T h p o .1 w)))
+
+  -- no target: unavailable
+  pub target-unavailable : (id : ℕ) → target T id ≡ none → Available T id → ⊥
+  target-unavailable id e a = clash {A = ⊥} _ (rw e) (target-available id .1 a)
+
+  -- a component that is not Inactive and has a target is coherent, and the other way round
+  pub coherent-target : (id : ℕ) → notInactive (T .nodes) id ≡ true → (isNone (target T id) ≡ false) ↔ Coherent T id
+  coherent-target id i = (λ n. forth (target-available id .0 n), λ c. target-available id .1 (record { there = c .there; kept = c .kept; provided = λ p m. let k : Linked (T .links) id p = c .covers p m in (k .link .binding .provider, rw (k .of-port) at ((c .targets (k .link) (k .among) (k .is-live) (k .of-consumer)) .0)) }))
+    where
+      forth : Available T id → Coherent T id
+      forth a = record {
+        there = a .there;
+        kept = a .kept;
+        targets = λ l m v e.
+            let w : LiveOk (T .nodes) (T .declarations) (l .consumer) (l .binding) = facts S T h .safe .live l m v in
+            let n : List·Memᴰ (dependency id (portOf (l .binding))) (T .declarations) = rw e at (w .needed) in
+            let (o, x) = a .provided (portOf (l .binding)) n in
+            let s : o ≡ l .binding .provider = facts S T h .safe .unique (provision o (portOf (l .binding))) (provision (l .binding .provider) (portOf (l .binding))) (at-in (T .declarations) (x .4 .0) _ (x .4 .1)) (w .offered) refl refl (to-present T o (x .0, x .1, x .2)) (w .provider-present) refl in
+            (rw s at x, n);
+        covers = λ p m. facts S T h .covered (dependency id p) m refl (a .there) i;
+      }
+
+-- ---- committed
+
+-- each binding of committed is that of a live link of the consumer, and each such binding is in it
+pub committed-recorded : (ls : List Link) (id : ℕ) (b : Binding) → List·Memᴰ b (committed ls id) → (l : Link) × List·Memᴰ l ls × (l .live ≡ true) × (l .consumer ≡ id) × (b ≡ l .binding)
+unfolding committed
+committed-recorded ls id b m =
+    let (l, n, e) = in-map (λ l. l .binding) (keep (isLiveLinkOf id) ls) m in
+    let (i, h) = in-keep (isLiveLinkOf id) ls n in
+    (l, i, (live-link-of id l h) .0, (live-link-of id l h) .1, e)
+
+pub recorded-committed : (ls : List Link) (id : ℕ) (l : Link) → List·Memᴰ l ls → l .live ≡ true → l .consumer ≡ id → List·Memᴰ (l .binding) (committed ls id)
+unfolding committed isLiveLinkOf
+recorded-committed ls id l m v e = map-in (λ (l : Link). l .binding) (keep-in (isLiveLinkOf id) m (and-i (l .live) _ v (eq-eqb _ _ e)))
+
+-- ---- provisions_available
+
+-- no port twice: no two places hold the same port, both ways
+pub distinct-places : (ps : List Port) → distinct ps ≡ true → (i j : ℕ) (p q : Port) → At ps i p → At ps j q → i < j → p ≡ q → ⊥
+unfolding distinct
+distinct-places [] h i j p q a b l e = absurd (omega (arith, a .0))
+distinct-places (x ∷ xs) h i zero p q a b l e = absurd (omega arith)
+distinct-places (x ∷ xs) h zero (suc j) p q a b l e = clash {A = ⊥} (samePort x q) (subst (λ (z : Port). samePort x z ≡ true) (a .1 ∙ e) (port-same x)) (none-in (samePort x) (at-in xs j q (omega (arith, b .0), b .1)) (not-t _ (and-l (not (any (samePort x) xs)) _ h)))
+distinct-places (x ∷ xs) h (suc i) (suc j) p q a b l e = distinct-places xs (and-r (not (any (samePort x) xs)) _ h) i j p q (omega (arith, a .0), a .1) (omega (arith, b .0), b .1) (omega arith) e
+
+pub places-distinct : (ps : List Port) → ((i j : ℕ) (p q : Port) → At ps i p → At ps j q → i < j → p ≡ q → ⊥) → distinct ps ≡ true
+unfolding distinct
+places-distinct [] g = refl
+places-distinct (x ∷ xs) g = and-i (not (any (samePort x) xs)) _
+    (f-not _ (refuted _ (λ h. let (y, m, e) = any-in (samePort x) xs h in let (j, b) = in-at m in g 0 (suc j) x y (omega arith, refl) (omega (arith, b .0), b .1) (omega arith) (same-port x y e))))
+    (places-distinct xs (λ i j p q a b l. g (suc i) (suc j) p q (omega (arith, a .0), a .1) (omega (arith, b .0), b .1) (omega arith)))
+
+-- a port is taken exactly if a present owner provides it (not-taken of Theorems/Interface is the other way)
+pub taken-by : (T : Tables) (p : Port) → taken T p ≡ true → (o : ℕ) × (present (T .nodes) o ≡ true) × List·Memᴰ (provision o p) (T .declarations)
+unfolding taken takenBy
+taken-by T p h =
+    let (d, m, e) = any-in (takenBy (present (T .nodes)) p) (T .declarations) h in
+    let b : d .provides && samePort (d .port) p ≡ true = and-l (d .provides && samePort (d .port) p) _ e in
+    let x : d .provides ≡ true = and-l (d .provides) _ b in
+    let y : d .port ≡ p = same-port _ _ (and-r (d .provides) _ b) in
+    (d .owner, and-r (d .provides && samePort (d .port) p) _ e, Memᴰ·cast (sym (λ i. record { owner = d .owner; port = y i; provides = x i })) m)

@@ -1,0 +1,33 @@
+-- Accepted and refused: a command is accepted exactly if no test of its row applies, and a refused one changes nothing.
+use mathlib.Core.Path.{_≡_, refl}
+use mathlib.Core.Bool.{Bool, false, not, true}
+use mathlib.Core.Logic.{_↔_}
+use lib.Dec.{eqb}
+use borrow.Author.Tests.{eq-eqb}
+use Rattle.model.specs.declared.Error.{Error}
+use Rattle.model.proofs.Laws.Booleans.{clash}
+use Rattle.model.proofs.Laws.Refusals.{Passed, first-among, of-passed, report-accepts, step-cases}
+use Rattle.model.specs.Commands.{Command, report, result, settle, step, tests}
+use Rattle.model.specs.Lists.{all}
+use Rattle.model.specs.Refusals.{Reply, accepted, number}
+use Rattle.model.specs.Sizes.{Sizes}
+use Rattle.model.specs.Tables.{Tables}
+
+module _ (S : Sizes) (T : Tables) (c : Command) where
+  pub accepted-step : Passed (tests S T c) → step S T c ≡ record { tables = result T c; reply = report T c }
+  unfolding step settle
+  accepted-step p = rw (of-passed (tests S T c) p)
+
+  -- accepted exactly if no test of the row applies
+  pub accepts : (accepted ((step S T c) .reply) ≡ true) ↔ Passed (tests S T c)
+  accepts = (step-cases (λ o. accepted (o .reply) ≡ true → Passed (tests S T c)) S T c (λ e h q. clash false q refl) (λ p q. p), λ p. rw (accepted-step p) (report-accepts T c))
+
+  -- unchanged
+  pub refused-unchanged : accepted ((step S T c) .reply) ≡ false → (step S T c) .tables ≡ T
+  refused-unchanged = step-cases (λ o. accepted (o .reply) ≡ false → o .tables ≡ T) S T c (λ e h q. refl) (λ p q. clash _ (report-accepts T c) q)
+
+  -- a refusal that no test of the row gives
+  pub never-refused-with : (e : Error) → all (λ (t : Bool × Error). not (eqb (number (t .1)) (number e))) (tests S T c) ≡ true → (step S T c) .reply ≡ Reply.refused e → ⊥
+  never-refused-with e h = step-cases (λ o. o .reply ≡ Reply.refused e → ⊥) S T c
+      (λ x f q. let d : x ≡ e = cc in clash {A = ⊥} _ (first-among (tests S T c) e (λ y. not (eqb (number y) (number e))) h (rw d at f)) (rw (eq-eqb (number e) (number e) refl)))
+      (λ p q. clash {A = ⊥} (accepted (report T c)) (report-accepts T c) (rw q))
