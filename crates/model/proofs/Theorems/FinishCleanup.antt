@@ -3,6 +3,7 @@ use mathlib.Core.Path.{_∙_, _≡_, ap, refl, sym}
 use mathlib.Core.Bool.{false, not, true}
 use mathlib.Core.List.{List, List·Memᴰ, map}
 use Prim.Native.Nat.{_<_, ℕ}
+use native.Mathlib.Omega.{arith}
 use lib.ListN.{length, length-map, length-set}
 use borrow.Author.Tests.{eq-eqb, ne-eqb}
 use Rattle.model.specs.declared.Link.{Link}
@@ -16,7 +17,6 @@ use Rattle.model.proofs.Laws.Order.{apart-of, of-apart, ordered-map}
 use Rattle.model.proofs.Laws.Refusals.{Passed}
 use Rattle.model.proofs.Laws.Update.{safe-links, safe-update}
 use Rattle.model.specs.Lifecycle.{cleanupFinished, finishCleanupTests}
-use Rattle.model.specs.Observers.{children}
 use Rattle.model.specs.Records.{deadFor, isInactive, restoredNode}
 use Rattle.model.specs.Sizes.{Sizes}
 use Rattle.model.specs.Soundness.{apart}
@@ -52,7 +52,7 @@ module _ (S : Sizes) (T : Tables) where
       let r : n .restoring ≡ true = not-f _ (p .1 .0) in
       let L : List Link = map (deadFor id) (T .links) in
       record {
-        sizes = record { nodes = rw (length-set (T .nodes) id (restoredNode n)) (k .sizes .nodes); declarations = k .sizes .declarations; links = rw (length-map (T .links) (deadFor id)) (k .sizes .links) };
+        sizes = record { nodes = rw (length-set (T .nodes) id (restoredNode n)) (k .sizes .nodes); declarations = k .sizes .declarations; links = omega (arith, length-map (T .links) (deadFor id), k .sizes .links) };
         safe = safe-update (withLinks T L) id (restoredNode n) (dead-safe id (k .safe)) (record {
           there = t;
           parent-ok = λ a. k .safe .nodes id .parent-ok t;
