@@ -9,3 +9,4 @@ pub mod Iteration
 pub mod Declared
 pub mod Begin
 pub mod Inserted
+pub mod Updated

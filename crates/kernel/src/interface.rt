@@ -27,24 +27,11 @@ impl Kernel {
             };
         }
         let node = self.nodes[id];
-        if !node.present {
+        let checked = model::checks::check_declare(node);
+        if let Answer::Refused(error) = checked {
             return Outcome {
                 kernel: self,
-                answer: Answer::Refused(Error::Unknown),
-            };
-        }
-        if node.retired {
-            return Outcome {
-                kernel: self,
-                answer: Answer::Refused(Error::Retired),
-            };
-        }
-        let phase = node.phase;
-        let running = model::is_running(phase);
-        if !(running | model::is_pending(node)) {
-            return Outcome {
-                kernel: self,
-                answer: Answer::Refused(Error::InvalidState),
+                answer: Answer::Refused(error),
             };
         }
         let nodes = self.nodes;
@@ -145,22 +132,11 @@ impl Kernel {
             };
         }
         let node = self.nodes[id];
-        if !node.present {
+        let checked = model::checks::check_configure(node);
+        if let Answer::Refused(error) = checked {
             return Outcome {
                 kernel: self,
-                answer: Answer::Refused(Error::Unknown),
-            };
-        }
-        if node.retired {
-            return Outcome {
-                kernel: self,
-                answer: Answer::Refused(Error::Retired),
-            };
-        }
-        if !model::is_pending(node) {
-            return Outcome {
-                kernel: self,
-                answer: Answer::Refused(Error::InvalidState),
+                answer: Answer::Refused(error),
             };
         }
         let declarations = self.declarations;

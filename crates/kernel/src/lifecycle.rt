@@ -30,29 +30,11 @@ impl Kernel {
             };
         }
         let node = self.nodes[id];
-        if !node.present {
+        let checked = model::checks::check_begin(node);
+        if let Answer::Refused(error) = checked {
             return Outcome {
                 kernel: self,
-                answer: Answer::Refused(Error::Unknown),
-            };
-        }
-        let phase = node.phase;
-        if !model::is_inactive(phase) {
-            return Outcome {
-                kernel: self,
-                answer: Answer::Refused(Error::InvalidState),
-            };
-        }
-        if node.retired {
-            return Outcome {
-                kernel: self,
-                answer: Answer::Refused(Error::Retired),
-            };
-        }
-        if node.generation == 18446744073709551615 {
-            return Outcome {
-                kernel: self,
-                answer: Answer::Refused(Error::Capacity),
+                answer: Answer::Refused(error),
             };
         }
         let nodes = self.nodes;
@@ -98,21 +80,15 @@ impl Kernel {
             return Answer::Refused(Error::Unknown);
         }
         let node = self.nodes[id];
-        if !node.present {
-            return Answer::Refused(Error::Unknown);
-        }
-        let phase = node.phase;
-        if !model::is_loading(phase) {
-            return Answer::Refused(Error::InvalidState);
-        }
-        if node.retired {
-            return Answer::Refused(Error::Changed);
+        let checked = model::checks::check_loading(node);
+        if let Answer::Refused(error) = checked {
+            return Answer::Refused(error);
         }
         let nodes = self.nodes;
         let declarations = self.declarations;
         let count = self.declaration_count;
         let target = scans::target_table(nodes, declarations, count, id);
-        if !target.there {
+        if node.retired | !target.there {
             return Answer::Refused(Error::Changed);
         }
         Answer::Done
@@ -135,30 +111,18 @@ impl Kernel {
             };
         }
         let node = self.nodes[id];
-        if !node.present {
+        let checked = model::checks::check_loading(node);
+        if let Answer::Refused(error) = checked {
             return Outcome {
                 kernel: self,
-                answer: Answer::Refused(Error::Unknown),
-            };
-        }
-        let phase = node.phase;
-        if !model::is_loading(phase) {
-            return Outcome {
-                kernel: self,
-                answer: Answer::Refused(Error::InvalidState),
-            };
-        }
-        if node.retired {
-            return Outcome {
-                kernel: self,
-                answer: Answer::Refused(Error::Changed),
+                answer: Answer::Refused(error),
             };
         }
         let nodes = self.nodes;
         let declarations = self.declarations;
         let count = self.declaration_count;
         let target = scans::target_table(nodes, declarations, count, id);
-        if !target.there {
+        if node.retired | !target.there {
             return Outcome {
                 kernel: self,
                 answer: Answer::Refused(Error::Changed),
@@ -188,17 +152,11 @@ impl Kernel {
             };
         }
         let node = self.nodes[id];
-        if !node.present {
+        let checked = model::checks::check_running(node);
+        if let Answer::Refused(error) = checked {
             return Outcome {
                 kernel: self,
-                answer: Answer::Refused(Error::Unknown),
-            };
-        }
-        let phase = node.phase;
-        if !model::is_running(phase) {
-            return Outcome {
-                kernel: self,
-                answer: Answer::Refused(Error::InvalidState),
+                answer: Answer::Refused(error),
             };
         }
         self.nodes[id] = model::with_phase(Phase::Unloading, node);
@@ -225,17 +183,11 @@ impl Kernel {
             };
         }
         let node = self.nodes[id];
-        if !node.present {
+        let checked = model::checks::check_running(node);
+        if let Answer::Refused(error) = checked {
             return Outcome {
                 kernel: self,
-                answer: Answer::Refused(Error::Unknown),
-            };
-        }
-        let phase = node.phase;
-        if !model::is_running(phase) {
-            return Outcome {
-                kernel: self,
-                answer: Answer::Refused(Error::InvalidState),
+                answer: Answer::Refused(error),
             };
         }
         let nodes = self.nodes;
@@ -302,28 +254,26 @@ impl Kernel {
             };
         }
         let node = self.nodes[id];
-        if !node.present {
+        let checked = model::checks::check_unloading(node);
+        if let Answer::Refused(error) = checked {
             return Outcome {
                 kernel: self,
-                answer: Answer::Refused(Error::Unknown),
+                answer: Answer::Refused(error),
             };
         }
-        let phase = node.phase;
-        if !model::is_unloading(phase) | node.restoring {
-            return Outcome {
-                kernel: self,
-                answer: Answer::Refused(Error::InvalidState),
-            };
-        }
+        let new = model::restoring_node(node);
+        let nodes = self.nodes;
+        let issued = self.node_count;
         let links = self.links;
         let linked = self.link_count;
-        if scans::relies_in(links, linked, id) {
+        let updated = scans::update_node(nodes, issued, links, linked, id, new);
+        if let Answer::Refused(error) = updated {
             return Outcome {
                 kernel: self,
-                answer: Answer::Refused(Error::Relied),
+                answer: Answer::Refused(error),
             };
         }
-        self.nodes[id] = model::restoring_node(node);
+        self.nodes[id] = new;
         Outcome {
             kernel: self,
             answer: Answer::Done,
@@ -347,16 +297,11 @@ impl Kernel {
             };
         }
         let node = self.nodes[id];
-        if !node.present {
+        let checked = model::checks::check_restoring(node);
+        if let Answer::Refused(error) = checked {
             return Outcome {
                 kernel: self,
-                answer: Answer::Refused(Error::Unknown),
-            };
-        }
-        if !node.restoring {
-            return Outcome {
-                kernel: self,
-                answer: Answer::Refused(Error::InvalidState),
+                answer: Answer::Refused(error),
             };
         }
         let links = self.links;
@@ -386,29 +331,26 @@ impl Kernel {
             };
         }
         let node = self.nodes[id];
-        if !node.present {
+        let checked = model::checks::check_retired(node);
+        if let Answer::Refused(error) = checked {
             return Outcome {
                 kernel: self,
-                answer: Answer::Refused(Error::Unknown),
+                answer: Answer::Refused(error),
             };
         }
-        let phase = node.phase;
-        let inactive = model::is_inactive(phase);
-        if !(node.retired & inactive) {
-            return Outcome {
-                kernel: self,
-                answer: Answer::Refused(Error::InvalidState),
-            };
-        }
+        let new = model::absent_node(node);
         let nodes = self.nodes;
-        let count = self.node_count;
-        if scans::has_child(nodes, count, id) {
+        let issued = self.node_count;
+        let links = self.links;
+        let linked = self.link_count;
+        let updated = scans::update_node(nodes, issued, links, linked, id, new);
+        if let Answer::Refused(error) = updated {
             return Outcome {
                 kernel: self,
-                answer: Answer::Refused(Error::Children),
+                answer: Answer::Refused(error),
             };
         }
-        self.nodes[id] = model::absent_node(node);
+        self.nodes[id] = new;
         Outcome {
             kernel: self,
             answer: Answer::Done,

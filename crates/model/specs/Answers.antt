@@ -1,20 +1,27 @@
 -- The answer enums of the code: what each of their cases says in document 01's words and numbers.
 -- a command or a check: done, or the refusal
+use mathlib.Core.Bool.{Bool}
+use mathlib.Core.List.{List}
 use mathlib.Core.Option.{Option, none, some}
 use Prim.Native.Nat.{ℕ}
 use Rattle.model.specs.declared.Answer.{Answer}
+use Rattle.model.specs.declared.Error.{Error}
 use Rattle.model.specs.declared.InsertAnswer.{InsertAnswer}
 use Rattle.model.specs.declared.OptionGeneration.{OptionGeneration}
 use Rattle.model.specs.declared.OptionPhase.{OptionPhase}
 use Rattle.model.specs.declared.Phase.{Phase}
 use Rattle.model.specs.declared.Resolution.{Resolution}
-use Rattle.model.specs.Refusals.{Reply, number}
+use Rattle.model.specs.Refusals.{Reply, first, number, orElse}
 
 abbrev pub answer : Reply → Answer
 answer Reply.done = Answer.Done
 answer (Reply.issued id) = Answer.Done
 answer (Reply.removed n) = Answer.Done
 answer (Reply.refused e) = Answer.Refused e
+
+-- the refusal of the first test that applies, or done
+abbrev pub checked : List (Bool × Error) → Answer
+checked ts = answer (orElse (first ts) Reply.done)
 
 -- insert: done with the identity, or the refusal; it replies nothing else
 abbrev pub insertAnswer : Reply → InsertAnswer

@@ -7,6 +7,7 @@ use lib.ListN.{length, take}
 use Rattle.model.specs.declared.Declaration.{Declaration}
 use Rattle.model.specs.declared.Error.{Error}
 use Rattle.model.specs.declared.Link.{Link}
+use Rattle.model.specs.declared.Node.{Node}
 use Rattle.model.specs.declared.Port.{Port}
 use Rattle.model.specs.declared.PortList.{PortList}
 use Rattle.model.specs.Lists.{any, keep, padded}
@@ -39,6 +40,10 @@ distinct (p ∷ ps) = not (any (samePort p) ps) && distinct ps
 abbrev pub unknown : Tables → ℕ → Bool × Error
 unknown T id = (not (present (T .nodes) id), Error.Unknown)
 
+-- the same of a node
+abbrev pub absent : Node → Bool × Error
+absent n = (not (n .present), Error.Unknown)
+
 -- ---- declare_provision
 
 -- a provision of the port by a present owner, whatever its phase or retirement
@@ -52,8 +57,12 @@ taken T p = any (takenBy (present (T .nodes)) p) (T .declarations)
 abbrev pub own : Tables → ℕ → Port → Bool
 own T id p = declares (T .declarations) id p true
 
+-- tested of the component's node
+abbrev pub declareNodeTests : Node → List (Bool × Error)
+declareNodeTests n = absent n ∷ (n .retired, Error.Retired) ∷ (not (isRunning (n .phase) || isPending n), Error.InvalidState) ∷ []
+
 abbrev pub declareProvisionTests : Sizes → Tables → ℕ → Port → List (Bool × Error)
-declareProvisionTests S T id p = let n = nodeAt (T .nodes) id in unknown T id ∷ (n .retired, Error.Retired) ∷ (not (isRunning (n .phase) || isPending n), Error.InvalidState) ∷ (not (own T id p) && taken T p, Error.Conflict) ∷ (not (own T id p) && leb (S .declarations) (length (T .declarations)), Error.Capacity) ∷ []
+declareProvisionTests S T id p = declareNodeTests (nodeAt (T .nodes) id) ++ ((not (own T id p) && taken T p, Error.Conflict) ∷ (not (own T id p) && leb (S .declarations) (length (T .declarations)), Error.Capacity) ∷ [])
 
 abbrev pub provisionDeclared : Tables → ℕ → Port → Tables
 provisionDeclared T id p = withDeclarations T (cond (own T id p) (T .declarations) (T .declarations ++ (provision id p ∷ [])))
@@ -73,8 +82,12 @@ provisionReleased T id p = withDeclarations T (keep (λ d. not (isDeclaration id
 
 -- ---- configure_pending_dependencies
 
+-- tested of the component's node
+abbrev pub configureNodeTests : Node → List (Bool × Error)
+configureNodeTests n = absent n ∷ (n .retired, Error.Retired) ∷ (not (isPending n), Error.InvalidState) ∷ []
+
 abbrev pub configureTests : Sizes → Tables → ℕ → PortList → List (Bool × Error)
-configureTests S T id l = let n = nodeAt (T .nodes) id in (tooLong l, Error.Capacity) ∷ unknown T id ∷ (n .retired, Error.Retired) ∷ (not (isPending n), Error.InvalidState) ∷ (ltb (S .declarations) (length (listed l) + length (T .declarations)), Error.Capacity) ∷ (not (distinct (listed l)), Error.Conflict) ∷ []
+configureTests S T id l = (tooLong l, Error.Capacity) ∷ (configureNodeTests (nodeAt (T .nodes) id) ++ ((ltb (S .declarations) (length (listed l) + length (T .declarations)), Error.Capacity) ∷ (not (distinct (listed l)), Error.Conflict) ∷ []))
 
 -- drops the owner's dependencies, then appends the list in order
 abbrev pub dependenciesConfigured : Tables → ℕ → PortList → Tables

@@ -10,7 +10,7 @@ use Rattle.model.specs.declared.Error.{Error}
 use Rattle.model.specs.declared.Link.{Link}
 use Rattle.model.specs.declared.Node.{Node}
 use Rattle.model.specs.declared.Phase.{Phase}
-use Rattle.model.specs.Interface.{unknown}
+use Rattle.model.specs.Interface.{absent, unknown}
 use Rattle.model.specs.Lists.{any, isNone}
 use Rattle.model.specs.Records.{absentNode, deadFor, isChildOf, isInactive, isLoading, isRunning, isUnloading, liveLink, restoredNode, restoringNode, retiredNode, startedNode, withPhase}
 use Rattle.model.specs.Refusals.{Reply, first, orElse}
@@ -28,8 +28,12 @@ abbrev pub bindings : Option (List Binding) → List Binding
 bindings none = []
 bindings (some bs) = bs
 
+-- tested of the component's node
+abbrev pub beginNodeTests : Node → List (Bool × Error)
+beginNodeTests n = absent n ∷ (not (isInactive (n .phase)), Error.InvalidState) ∷ (n .retired, Error.Retired) ∷ (eqb (n .generation) lastGeneration, Error.Capacity) ∷ []
+
 abbrev pub beginTests : Sizes → Tables → ℕ → List (Bool × Error)
-beginTests S T id = let n = nodeAt (T .nodes) id in unknown T id ∷ (not (isInactive (n .phase)), Error.InvalidState) ∷ (n .retired, Error.Retired) ∷ (eqb (n .generation) lastGeneration, Error.Capacity) ∷ (isNone (target T id), Error.MissingDependency) ∷ (ltb (S .links) (length (T .links) + length (bindings (target T id))), Error.Capacity) ∷ []
+beginTests S T id = beginNodeTests (nodeAt (T .nodes) id) ++ ((isNone (target T id), Error.MissingDependency) ∷ (ltb (S .links) (length (T .links) + length (bindings (target T id))), Error.Capacity) ∷ [])
 
 -- Loading, the next generation
 abbrev pub begunNode : Node → Node
@@ -41,8 +45,12 @@ begun T id = record { nodes = set (T .nodes) id (begunNode (nodeAt (T .nodes) id
 
 -- ---- check_iteration and finish
 
+-- tested of the component's node: it is Loading
+abbrev pub loadingTests : Node → List (Bool × Error)
+loadingTests n = absent n ∷ (not (isLoading (n .phase)), Error.InvalidState) ∷ []
+
 abbrev pub iterationTests : Tables → ℕ → List (Bool × Error)
-iterationTests T id = unknown T id ∷ (not (isLoading (phaseAt T id)), Error.InvalidState) ∷ (isNone (target T id), Error.Changed) ∷ []
+iterationTests T id = loadingTests (nodeAt (T .nodes) id) ++ ((isNone (target T id), Error.Changed) ∷ [])
 
 unfoldable pub checkIteration : Tables → ℕ → Reply
 checkIteration T id = orElse (first (iterationTests T id)) Reply.done
@@ -52,11 +60,15 @@ finished T id = withNode T id (withPhase Phase.Active (nodeAt (T .nodes) id))
 
 -- ---- leave and leave_if_changed
 
+-- tested of the component's node: it is Loading or Active
+abbrev pub runningTests : Node → List (Bool × Error)
+runningTests n = absent n ∷ (not (isRunning (n .phase)), Error.InvalidState) ∷ []
+
 abbrev pub leaveTests : Tables → ℕ → List (Bool × Error)
-leaveTests T id = unknown T id ∷ (not (isRunning (phaseAt T id)), Error.InvalidState) ∷ []
+leaveTests T id = runningTests (nodeAt (T .nodes) id)
 
 abbrev pub leaveIfChangedTests : Tables → ℕ → List (Bool × Error)
-leaveIfChangedTests T id = unknown T id ∷ (not (isRunning (phaseAt T id)), Error.InvalidState) ∷ (not (isNone (target T id)), Error.Changed) ∷ []
+leaveIfChangedTests T id = runningTests (nodeAt (T .nodes) id) ++ ((not (isNone (target T id)), Error.Changed) ∷ [])
 
 abbrev pub left : Tables → ℕ → Tables
 left T id = withNode T id (withPhase Phase.Unloading (nodeAt (T .nodes) id))
@@ -75,16 +87,24 @@ retiredFrom T id = withNode T id (retiredNode (nodeAt (T .nodes) id))
 unfoldable pub relies : ℕ → Link → Bool
 relies id l = l .live && eqb (l .binding .provider) id
 
+-- tested of the component's node: it is Unloading and not restoring
+abbrev pub unloadingTests : Node → List (Bool × Error)
+unloadingTests n = absent n ∷ (not (isUnloading (n .phase) && not (n .restoring)), Error.InvalidState) ∷ []
+
 abbrev pub beginCleanupTests : Tables → ℕ → List (Bool × Error)
-beginCleanupTests T id = let n = nodeAt (T .nodes) id in unknown T id ∷ (not (isUnloading (n .phase) && not (n .restoring)), Error.InvalidState) ∷ (any (relies id) (T .links), Error.Relied) ∷ []
+beginCleanupTests T id = unloadingTests (nodeAt (T .nodes) id) ++ ((any (relies id) (T .links), Error.Relied) ∷ [])
 
 abbrev pub cleanupBegun : Tables → ℕ → Tables
 cleanupBegun T id = withNode T id (restoringNode (nodeAt (T .nodes) id))
 
 -- ---- finish_cleanup
 
+-- tested of the component's node
+abbrev pub restoringTests : Node → List (Bool × Error)
+restoringTests n = absent n ∷ (not (n .restoring), Error.InvalidState) ∷ []
+
 abbrev pub finishCleanupTests : Tables → ℕ → List (Bool × Error)
-finishCleanupTests T id = unknown T id ∷ (not ((nodeAt (T .nodes) id) .restoring), Error.InvalidState) ∷ []
+finishCleanupTests T id = restoringTests (nodeAt (T .nodes) id)
 
 -- every link of the consumer becomes dead; no link record goes
 abbrev pub cleanupFinished : Tables → ℕ → Tables
@@ -92,8 +112,12 @@ cleanupFinished T id = record { nodes = set (T .nodes) id (restoredNode (nodeAt 
 
 -- ---- remove
 
+-- tested of the component's node: it is retired and Inactive
+abbrev pub retiredTests : Node → List (Bool × Error)
+retiredTests n = absent n ∷ (not (n .retired && isInactive (n .phase)), Error.InvalidState) ∷ []
+
 abbrev pub removeTests : Tables → ℕ → List (Bool × Error)
-removeTests T id = let n = nodeAt (T .nodes) id in unknown T id ∷ (not (n .retired && isInactive (n .phase)), Error.InvalidState) ∷ (any (isChildOf id) (T .nodes), Error.Children) ∷ []
+removeTests T id = retiredTests (nodeAt (T .nodes) id) ++ ((any (isChildOf id) (T .nodes), Error.Children) ∷ [])
 
 -- clears present only
 abbrev pub removedFrom : Tables → ℕ → Tables

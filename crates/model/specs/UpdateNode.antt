@@ -1,6 +1,6 @@
 -- update_node: not public. It writes one node anew if the tables allow it, and keeps soundness without the last point.
 use mathlib.Core.Bool.{Bool, _&&_, _||_, not}
-use mathlib.Core.List.{List, [], _∷_}
+use mathlib.Core.List.{List, [], _++_, _∷_}
 use Prim.Native.Nat.{ℕ}
 use lib.Dec.{eqb}
 use Rattle.model.specs.declared.Error.{Error}
@@ -19,6 +19,10 @@ idle n = not (n .present) || isInactive (n .phase)
 unfoldable pub blocks : ℕ → Node → Link → Bool
 blocks id n l = l .live && (eqb (l .consumer) id && idle n || eqb (l .binding .provider) id && (idle n || n .restoring))
 
--- 1 not present, 2 inconsistent new node, 1 parent, 8 a present child of a node that goes, 7 a live link in the way
+-- of the nodes: 1 not present, 2 inconsistent new node, 1 parent, 8 a present child of a node that goes
+abbrev pub updateNodeTests : List Node → ℕ → Node → List (Bool × Error)
+updateNodeTests ns id n = (not (present ns id), Error.Unknown) ∷ (not (isConsistent n), Error.InvalidState) ∷ (n .present && not (parentOk ns id (n .parent)), Error.Unknown) ∷ (not (n .present) && any (isChildOf id) ns, Error.Children) ∷ []
+
+-- then 7, a live link in the way
 abbrev pub updateTests : Tables → ℕ → Node → List (Bool × Error)
-updateTests T id n = (not (present (T .nodes) id), Error.Unknown) ∷ (not (isConsistent n), Error.InvalidState) ∷ (n .present && not (parentOk (T .nodes) id (n .parent)), Error.Unknown) ∷ (not (n .present) && any (isChildOf id) (T .nodes), Error.Children) ∷ (any (blocks id n) (T .links), Error.Relied) ∷ []
+updateTests T id n = updateNodeTests (T .nodes) id n ++ ((any (blocks id n) (T .links), Error.Relied) ∷ [])

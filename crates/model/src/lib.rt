@@ -40,6 +40,8 @@ ghost use Rattle.model.specs.Records.{
 ghost use Rattle.model.specs.Refusals.{number};
 ghost use Rattle.model.specs.Answers.{answerNumber, insertAnswerNumber};
 
+pub mod checks;
+
 pub enum Phase {
     Inactive,
     Loading,

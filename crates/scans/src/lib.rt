@@ -8,11 +8,9 @@ ghost use lib.ListN.{length, take, drop};
 ghost use Rattle.model.specs.Lists.{all, any, allAt, keep, places, padded};
 ghost use Rattle.model.specs.Records.{isBlankNode, isBlankDeclaration, isBlankLink, isChildOf, isProviding};
 ghost use Rattle.model.specs.Soundness.{parentOk, nodeOk, hasOwner, sameOwner, isDeclaration, linkOk, ordered, linksTo, isCovered};
-ghost use Rattle.model.specs.Answers.{answer, resolution};
-ghost use Rattle.model.specs.Refusals.{Reply, first, orElse};
-ghost use Rattle.model.specs.UpdateNode.{blocks, updateTests};
+ghost use Rattle.model.specs.Answers.{checked, resolution};
+ghost use Rattle.model.specs.UpdateNode.{updateNodeTests, updateTests};
 ghost use Rattle.model.specs.Interface.{listed, distinct, takenBy, reliesOn};
-ghost use Rattle.model.specs.Lifecycle.{relies};
 ghost use Rattle.model.specs.Resolution.{resolve, dependencyPorts, bindPorts, committed};
 ghost use Rattle.scans.specs.Columns.{declarationsOf, linksOf, flag, endsBelow};
 ghost use Rattle.scans.specs.Answers.{flagsOf, identities, targetBindings, committedBindings, nodesAndLinks, AtMost};
@@ -653,23 +651,6 @@ pub fn target_table(
     target_in(&owner, &key, &realm, &provides, &providing, count, id)
 }
 
-// Whether a live link below the count has this provider.
-pub fn relies_in(links: [Link; 512], count: usize, id: usize) -> bool
-    ensures { λ r. ⌜ r ≡ any (relies id) (take count links) ⌝ }
-{
-    let end = at_most(count, 512);
-    let mut i = 0;
-    while i < end {
-        let l = links[i];
-        let b = l.binding;
-        if l.live & (b.provider == id) {
-            return true;
-        }
-        i += 1;
-    }
-    false
-}
-
 // Whether a live link below the count has this provider and port.
 pub fn relies_on(links: [Link; 512], count: usize, id: usize, port: Port) -> bool
     ensures { λ r. ⌜ r ≡ any (reliesOn id port) (take count links) ⌝ }
@@ -697,28 +678,6 @@ pub fn has_child(nodes: [Node; 64], count: usize, id: usize) -> bool
     while i < end {
         let node = nodes[i];
         if model::is_child_of(id, node) {
-            return true;
-        }
-        i += 1;
-    }
-    false
-}
-
-// Whether a live link below the count would lose its consumer or its provider by this node, written for this identity.
-pub fn blocked(links: [Link; 512], count: usize, id: usize, node: Node) -> bool
-    ensures { λ r. ⌜ r ≡ any (blocks id node) (take count links) ⌝ }
-{
-    let end = at_most(count, 512);
-    let phase = node.phase;
-    let inactive = model::is_inactive(phase);
-    let idle = !node.present | inactive;
-    let mut i = 0;
-    while i < end {
-        let l = links[i];
-        let b = l.binding;
-        let consumes = (l.consumer == id) & idle;
-        let serves = (b.provider == id) & (idle | node.restoring);
-        if l.live & (consumes | serves) {
             return true;
         }
         i += 1;
@@ -838,16 +797,9 @@ pub fn parent_ok(nodes: [Node; 64], count: usize, id: usize, parent: Parent) -> 
     above.present
 }
 
-// update_node: whether this node may be written for this identity. It answers only; the command that asks stores the node.
-pub fn update_node(
-    nodes: [Node; 64],
-    issued: usize,
-    links: [Link; 512],
-    linked: usize,
-    id: usize,
-    node: Node,
-) -> Answer
-    ensures { λ r. ⌜ r ≡ answer (orElse (first (updateTests (nodesAndLinks (take issued nodes) (take linked links)) id node)) Reply.done) ⌝ }
+// What update_node tests of the nodes.
+pub fn check_update(nodes: [Node; 64], issued: usize, id: usize, node: Node) -> Answer
+    ensures { λ r. ⌜ r ≡ checked (updateNodeTests (take issued nodes) id node) ⌝ }
 {
     let end = at_most(issued, 64);
     if end <= id {
@@ -869,8 +821,32 @@ pub fn update_node(
     if !node.present & child {
         return Answer::Refused(Error::Children);
     }
-    if blocked(links, linked, id, node) {
-        return Answer::Refused(Error::Relied);
+    Answer::Done
+}
+
+// update_node: whether this node may be written for this identity. It answers only; the command that asks stores the node.
+pub fn update_node(
+    nodes: [Node; 64],
+    issued: usize,
+    links: [Link; 512],
+    linked: usize,
+    id: usize,
+    node: Node,
+) -> Answer
+    ensures { λ r. ⌜ r ≡ checked (updateTests (nodesAndLinks (take issued nodes) (take linked links)) id node) ⌝ }
+{
+    let checked = check_update(nodes, issued, id, node);
+    if let Answer::Refused(error) = checked {
+        return Answer::Refused(error);
+    }
+    let end = at_most(linked, 512);
+    let mut i = 0;
+    while i < end {
+        let l = links[i];
+        if model::checks::blocks(id, node, l) {
+            return Answer::Refused(Error::Relied);
+        }
+        i += 1;
     }
     Answer::Done
 }

@@ -1,13 +1,14 @@
 -- What a command does to a kernel value: refused by the entry test, refused by a test of its row, or accepted.
 use mathlib.Core.Path.{_∙_, _≡_, ap, sym}
 use mathlib.Core.Bool.{Bool, false, not, true}
-use mathlib.Core.List.{List, _∷_}
+use mathlib.Core.List.{List, _++_, _∷_}
 use mathlib.Core.Option.{some}
 use Prim.Native.Nat.{_≤_, ℕ}
 use native.Mathlib.Omega.{arith}
 use lib.ListN.{List·getD-eq-default, getD, length, length-set, set}
 use borrow.Author.Tests.{not-true}
 use Rattle.kernel.specs.declared.Kernel.{Kernel}
+use Rattle.model.specs.declared.Answer.{Answer}
 use Rattle.model.specs.declared.Error.{Error}
 use Rattle.model.specs.declared.Node.{Node}
 use Rattle.kernel.proofs.Laws.Observed.{declaration-count-is, is-sound, link-count-is, node-count-is}
@@ -15,9 +16,10 @@ use Rattle.kernel.specs.Fields.{isSound, kernelOf, layoutOf}
 use Rattle.kernel.specs.Outcomes.{command}
 use Rattle.model.proofs.Laws.Arrays.{set-padded}
 use Rattle.model.proofs.Laws.Nodes.{present-lt}
-use Rattle.model.proofs.Laws.Refusals.{Passed, stop}
+use Rattle.model.proofs.Laws.Refusals.{Passed, done-passed, passed-first, refused-among, stop}
 use Rattle.model.proofs.Theorems.Kernels.{commanded-accepted, commanded-refused, commanded-unsound}
 use Rattle.model.proofs.Theorems.Layouts.{laid-out, node-in-array}
+use Rattle.model.specs.Answers.{checked}
 use Rattle.model.specs.Commands.{Command, report, result, tests}
 use Rattle.model.specs.Interface.{unknown}
 use Rattle.model.specs.Layouts.{Layout, Sized, layOut, tablesOf}
@@ -58,6 +60,23 @@ module _ (k : Kernel) (z : Sized controller (layoutOf k)) (s : Bool) (e : s ≡ 
 
   pub absent-unknown : (id : ℕ) (ts : List (Bool × Error)) → not ((getD (k .nodes) id blankNode) .present) ≡ true → first (unknown (tablesOf (layoutOf k)) id ∷ ts) ≡ some Error.Unknown
   absent-unknown id ts h = stop _ _ ts (node-has (λ n. not (n .present)) true id h)
+
+  -- ---- the tests of the identity's node, which the code asks of the array's
+
+  array-node : (id : ℕ) (f : Node → List (Bool × Error)) (a : Answer) → a ≡ checked (f (getD (k .nodes) id blankNode)) → a ≡ checked (f (nodeAt ((tablesOf (layoutOf k)) .nodes) id))
+  array-node id f a h = h ∙ ap (λ (n : Node). checked (f n)) (sym (node-is id))
+
+  -- one refuses
+  pub node-refused : (id : ℕ) (f : Node → List (Bool × Error)) (us : List (Bool × Error)) (a : Answer) (x : Error) → a ≡ checked (f (getD (k .nodes) id blankNode)) → a ≡ Answer.Refused x → first (f (nodeAt ((tablesOf (layoutOf k)) .nodes) id) ++ us) ≡ some x
+  node-refused id f us a x h r = refused-among (f (nodeAt ((tablesOf (layoutOf k)) .nodes) id)) us a x (array-node id f a h) r
+
+  -- none applies
+  pub node-passed : (id : ℕ) (f : Node → List (Bool × Error)) (a : Answer) → a ≡ checked (f (getD (k .nodes) id blankNode)) → a ≡ Answer.Done → Passed (f (nodeAt ((tablesOf (layoutOf k)) .nodes) id))
+  node-passed id f a h d = done-passed (f (nodeAt ((tablesOf (layoutOf k)) .nodes) id)) a (array-node id f a h) d
+
+  -- and the rest of the row decides
+  pub node-past : (id : ℕ) (f : Node → List (Bool × Error)) (us : List (Bool × Error)) (a : Answer) → a ≡ checked (f (getD (k .nodes) id blankNode)) → a ≡ Answer.Done → first (f (nodeAt ((tablesOf (layoutOf k)) .nodes) id) ++ us) ≡ first us
+  node-past id f us a h d = passed-first (f (nodeAt ((tablesOf (layoutOf k)) .nodes) id)) us (node-passed id f a h d)
 
   -- ---- the tables laid out again
 

@@ -1,7 +1,7 @@
 -- Declarations anew: what the interface commands ask of a kernel's declarations, and the kernels that they leave.
-use mathlib.Core.Path.{_∙_, _≡_, ap, refl, sym}
-use mathlib.Core.Bool.{Bool, _&&_, _||_, cond, false, not, true}
+use mathlib.Core.Bool.{Bool, _&&_, cond, false, not, true}
 use mathlib.Core.List.{List, [], _++_, _∷_, map}
+use mathlib.Core.Path.{_∙_, _≡_, ap, refl, sym}
 use Prim.Native.Nat.{_+_, _<_, _≤_, ℕ}
 use native.Mathlib.Omega.{arith}
 use lib.Dec.{leb}
@@ -35,10 +35,6 @@ use Rattle.scans.specs.Columns.{flag}
 use Rattle.scans.proofs.distinct_ports.Kinds as ports
 
 -- ---- tests of their rows
-
--- of two answers that both say no
-pub neither : (a b c d x : Bool) → a ≡ c → b ≡ d → not (a || b) ≡ x → not (c || d) ≡ x
-neither a b c d x p q h = rw (← p, ← q) h
 
 -- a test that applies only to what this owner does not provide yet
 pub owned : (a b : Bool) → a ≡ true → not a && b ≡ false

@@ -1,7 +1,7 @@
 -- A sound kernel whose declarations or links are written anew: a padded array with its count, and the other fields as they were.
-use mathlib.Core.Path.{_∙_, _≡_, ap, refl, sym}
 use mathlib.Core.Bool.{Bool, false, not, true}
 use mathlib.Core.List.{List, _++_, map}
+use mathlib.Core.Path.{_∙_, _≡_, ap, refl, sym}
 use Prim.Native.Nat.{_-_, _≤_, ℕ}
 use native.Mathlib.Omega.{arith}
 use lib.ListN.{drop, length, length-drop, length-map, length-set, replicate, set, take}
@@ -41,12 +41,6 @@ module _ (k : Kernel) where
   links-below = refl
 
   -- so what a scan of the entries below the count finds is in the table
-  pub node-found : (p : Node → Bool) (r b : Bool) → r ≡ any p (take (k .«node_count») (k .nodes)) → r ≡ b → any p ((tablesOf (layoutOf k)) .nodes) ≡ b
-  node-found p r b h f = ap (any p) (sym nodes-below) ∙ sym h ∙ f
-
-  pub declaration-found : (p : Declaration → Bool) (r b : Bool) → r ≡ any p (take (k .«declaration_count») (k .declarations)) → r ≡ b → any p ((tablesOf (layoutOf k)) .declarations) ≡ b
-  declaration-found p r b h f = ap (any p) (sym declarations-below) ∙ sym h ∙ f
-
   pub link-found : (p : Link → Bool) (r b : Bool) → r ≡ any p (take (k .«link_count») (k .links)) → r ≡ b → any p ((tablesOf (layoutOf k)) .links) ≡ b
   link-found p r b h f = ap (any p) (sym links-below) ∙ sym h ∙ f
 

@@ -1,9 +1,9 @@
 -- What `scans::target_table` found in a sound kernel, as the target of the component.
-use mathlib.Core.Path.{_∙_, _≡_, ap, refl, sym}
 use mathlib.Core.Bool.{Bool, _&&_, _||_, false, not, or-true, true}
 use mathlib.Core.List.{List, map}
-use mathlib.Core.Option.{Option, none, some}
 use mathlib.Core.Logic.{_⊎_, inl, inr}
+use mathlib.Core.Option.{Option, none, some}
+use mathlib.Core.Path.{_∙_, _≡_, ap, refl, sym}
 use Prim.Native.Nat.{ℕ}
 use lib.ListN.{getD, length, take}
 use Rattle.kernel.specs.declared.Kernel.{Kernel}
@@ -58,3 +58,15 @@ module _ (k : Kernel) (z : Sized controller (layoutOf k)) (s : Bool) (e : s ≡ 
       go : ((getD (k .nodes) id blankNode) .retired ≡ true) ⊎ ((getD (k .nodes) id blankNode) .retired ≡ false) → not (isNone (target (tablesOf (layoutOf k)) id)) ≡ not ((getD (k .nodes) id blankNode) .retired) && r .there
       go (inl q) = rw (target-retired q, q)
       go (inr q) = rw (q, target-held r h p q .is-there)
+
+  -- and whether it has none
+  pub target-gone : (r : TargetBindings) → r ≡ targetBindings (found k id) → not ((getD (k .nodes) id blankNode) .present) ≡ false → isNone (target (tablesOf (layoutOf k)) id) ≡ (getD (k .nodes) id blankNode) .retired || not (r .there)
+  target-gone r h p = go (isNone (target (tablesOf (layoutOf k)) id)) ((getD (k .nodes) id blankNode) .retired) (r .there) (target-there r h p)
+    where
+      go : (a b c : Bool) → not a ≡ not b && c → a ≡ b || not c
+      go true true c e = refl
+      go true false true e = sym e
+      go true false false e = refl
+      go false true c e = sym e
+      go false false true e = refl
+      go false false false e = sym e

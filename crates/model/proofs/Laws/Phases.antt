@@ -1,6 +1,6 @@
 -- What one test on a phase says of another.
-use mathlib.Core.Path.{_≡_, refl, sym}
 use mathlib.Core.Bool.{false, not, true}
+use mathlib.Core.Path.{_≡_, refl, sym}
 use Rattle.model.specs.declared.Phase.{Phase}
 use Rattle.model.specs.Records.{isActive, isInactive, isLoading, isRunning, isUnloading}
 
@@ -51,12 +51,6 @@ inactive-is Phase.Inactive h = refl
 inactive-is Phase.Loading h = cc
 inactive-is Phase.Active h = cc
 inactive-is Phase.Unloading h = cc
-
-pub running-not : (f : Phase) → isInactive f ≡ true → isRunning f ≡ false
-running-not Phase.Inactive h = refl
-running-not Phase.Loading h = sym h
-running-not Phase.Active h = sym h
-running-not Phase.Unloading h = refl
 
 pub unloading-is : (f : Phase) → isUnloading f ≡ true → f ≡ Phase.Unloading
 unloading-is Phase.Inactive h = cc

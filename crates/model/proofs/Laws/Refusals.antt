@@ -1,13 +1,15 @@
 -- Tests in order: those that all passed, and the first that applies.
 -- no test of a row applies, by place
-use mathlib.Core.Path.{_≡_, refl}
 use mathlib.Core.Bool.{Bool, false, true}
-use mathlib.Core.List.{List, [], _∷_}
+use mathlib.Core.List.{List, [], _++_, _∷_}
 use mathlib.Core.Option.{Option, none, some}
+use mathlib.Core.Path.{_≡_, refl}
 use Prim.Native.Nat.{ℕ}
 use native.Mathlib.Omega.{arith}
+use Rattle.model.specs.declared.Answer.{Answer}
 use Rattle.model.specs.declared.Error.{Error}
 use Rattle.model.proofs.Laws.Booleans.{and-l, and-r}
+use Rattle.model.specs.Answers.{checked}
 use Rattle.model.specs.Commands.{Command, Outcome, report, result, settle, step, tests}
 use Rattle.model.specs.Lists.{all}
 use Rattle.model.specs.Refusals.{Reply, accepted, first}
@@ -39,6 +41,34 @@ skip b e ts h = rw h
 pub stop : (b : Bool) (e : Error) (ts : List (Bool × Error)) → b ≡ true → first ((b, e) ∷ ts) ≡ some e
 unfolding first
 stop b e ts h = rw h
+
+-- ---- a row whose first tests are answered by themselves
+
+-- a refusal among them is the row's
+pub refused-among : (ts us : List (Bool × Error)) (a : Answer) (x : Error) → a ≡ checked ts → a ≡ Answer.Refused x → first (ts ++ us) ≡ some x
+unfolding first
+refused-among [] us a x h r = let z : _≡_ {A = ℕ} 0 1 = cc in absurd (omega arith)
+refused-among (t ∷ ts) us a x h r = go (t .0) refl (λ q. refused-among ts us a x q r)
+  where
+    go : (b : Bool) → t .0 ≡ b → (a ≡ checked ts → first (ts ++ us) ≡ some x) → first ((t ∷ ts) ++ us) ≡ some x
+    go true e f = let y : t .1 ≡ x = cc (rw e at h, r) in rw (e, y)
+    go false e f = rw e (f (rw e at h))
+
+-- done: none of them applies
+pub done-passed : (ts : List (Bool × Error)) (a : Answer) → a ≡ checked ts → a ≡ Answer.Done → Passed ts
+unfolding first
+done-passed [] a h d = tt
+done-passed (t ∷ ts) a h d = go (t .0) refl (λ q. done-passed ts a q d)
+  where
+    go : (b : Bool) → t .0 ≡ b → (a ≡ checked ts → Passed ts) → (t .0 ≡ false) × Passed ts
+    go true e f = let z : _≡_ {A = ℕ} 0 1 = cc (rw e at h, d) in absurd (omega arith)
+    go false e f = (e, f (rw e at h))
+
+-- and the others decide
+pub passed-first : (ts us : List (Bool × Error)) → Passed ts → first (ts ++ us) ≡ first us
+unfolding first
+passed-first [] us p = refl
+passed-first (t ∷ ts) us p = rw (p .0) (passed-first ts us (p .1))
 
 -- a command's outcome, refused or accepted
 pub step-cases : (P : Outcome → Type 0) (S : Sizes) (T : Tables) (c : Command) → ((e : Error) → first (tests S T c) ≡ some e → P (record { tables = T; reply = Reply.refused e })) → (Passed (tests S T c) → P (record { tables = result T c; reply = report T c })) → P (step S T c)

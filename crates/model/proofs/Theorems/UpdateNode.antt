@@ -1,30 +1,32 @@
 -- update_node keeps soundness without the last point.
 -- a live link that does not block the new node's consumer, or its provider
-use mathlib.Core.Path.{_≡_, refl}
 use mathlib.Core.Bool.{Bool, _&&_, _||_, false, not, true}
 use mathlib.Core.List.{List, List·Memᴰ, List·Memᴰ·head, List·Memᴰ·tail, [], _∷_}
-use mathlib.Core.Option.{Option, none, some}
 use mathlib.Core.Logic.{_⊎_, inl, inr}
+use mathlib.Core.Option.{Option, none, some}
+use mathlib.Core.Path.{_∙_, _≡_, ap, refl}
 use Prim.Native.Nat.{ℕ}
 use lib.Dec.{eqb}
-use borrow.Author.Tests.{eq-eqb, eqb-true}
+use borrow.Author.Tests.{eq-eqb, eqb-true, ne-eqb}
 use Rattle.model.specs.declared.Error.{Error}
 use Rattle.model.specs.declared.Link.{Link}
 use Rattle.model.specs.declared.Node.{Node}
 use Rattle.model.specs.declared.Parent.{Parent}
-use Rattle.model.proofs.Laws.Booleans.{Each, and-i, cases, clash, each, f-not, imp-e, imp-i, not-f, not-t, of-each, or-f-l, or-f-r}
-use Rattle.model.proofs.Laws.Facts.{fits-of, of-fits, of-safe, safe-of}
+use Rattle.model.proofs.Laws.Booleans.{Each, and-i, and-l, and-r, cases, clash, each, f-not, imp-e, imp-i, not-f, not-t, of-each, or-f-l, or-f-r}
+use Rattle.model.proofs.Laws.Facts.{LiveOk, Safe, fits-of, of-fits, of-safe, safe-of}
 use Rattle.model.proofs.Laws.Lists.{none-in}
 use Rattle.model.proofs.Laws.Nodes.{node-in, present-lt}
-use Rattle.model.proofs.Laws.Refusals.{Passed, of-passed, passed}
+use Rattle.model.proofs.Laws.Phases.{unloading-installed}
+use Rattle.model.proofs.Laws.Refusals.{Passed, of-passed, passed, skip}
 use Rattle.model.proofs.Laws.Update.{Update, fits-update, safe-update}
 use Rattle.model.specs.Commands.{settle, updateNode}
+use Rattle.model.specs.Lifecycle.{relies, retiredTests, unloadingTests}
 use Rattle.model.specs.Lists.{any}
-use Rattle.model.specs.Records.{consistencyTests, hasParent, isChildOf, isConsistent, isInactive, isUnloading}
+use Rattle.model.specs.Records.{absentNode, consistencyTests, hasParent, isChildOf, isConsistent, isInactive, isUnloading, restoringNode}
 use Rattle.model.specs.Refusals.{Reply, first}
 use Rattle.model.specs.Sizes.{Sizes}
 use Rattle.model.specs.Soundness.{fits, safetyWf}
-use Rattle.model.specs.Tables.{Tables, nodeAt, present, withNode}
+use Rattle.model.specs.Tables.{Tables, nodeAt, notInactive, present, withNode}
 use Rattle.model.specs.UpdateNode.{blocks, idle, updateTests}
 
 module _ (id : ℕ) (n : Node) (l : Link) (v : l .live ≡ true) (h : blocks id n l ≡ false) where
@@ -110,3 +112,67 @@ consistent-of T id n u k = of-each (consistencyTests n) (imp-i (not (n .present)
 -- a present node that may be written passes every test
 pub update-accepts : (T : Tables) (id : ℕ) (n : Node) → Update T id n → n .present ≡ true → first (updateTests T id n) ≡ none
 update-accepts T id n u p = of-passed (updateTests T id n) (rw (u .there), (rw (consistent-of T id n u (λ a. clash _ p a)), (rw (p, u .parent-ok p), (rw p, (none-any (blocks id n) (T .links) (unblocked T id n u), tt)))))
+
+-- ---- what is left of its row where a command has tested its node on sound tables
+
+-- begin_cleanup: a node that starts restoring is refused by a live link that relies on it, and by nothing else
+module _ (T : Tables) (id : ℕ) (k : Safe T) (p : Passed (unloadingTests (nodeAt (T .nodes) id))) where
+  there : present (T .nodes) id ≡ true
+  there = not-f _ (p .0)
+
+  unloads : isUnloading ((nodeAt (T .nodes) id) .phase) ≡ true
+  unloads = and-l (isUnloading ((nodeAt (T .nodes) id) .phase)) (not ((nodeAt (T .nodes) id) .restoring)) (not-f _ (p .1 .0))
+
+  not-idle : idle (restoringNode (nodeAt (T .nodes) id)) ≡ false
+  not-idle = rw (there, not-t (isInactive ((nodeAt (T .nodes) id) .phase)) (unloading-installed ((nodeAt (T .nodes) id) .phase) unloads))
+
+  restoring-consistent : isConsistent (restoringNode (nodeAt (T .nodes) id)) ≡ true
+  restoring-consistent = rw (there, unloads)
+
+  restoring-blocks : (l : Link) → blocks id (restoringNode (nodeAt (T .nodes) id)) l ≡ relies id l
+  unfolding blocks relies
+  restoring-blocks l = rw not-idle (ap (λ (b : Bool). l .live && b) (go (eqb (l .consumer) id) (eqb (l .binding .provider) id)))
+    where
+      go : (a b : Bool) → a && false || b && true ≡ b
+      go true true = refl
+      go true false = refl
+      go false true = refl
+      go false false = refl
+
+  pub update-to-restoring : first (updateTests T id (restoringNode (nodeAt (T .nodes) id))) ≡ first ((any (relies id) (T .links), Error.Relied) ∷ [])
+  update-to-restoring = skip _ _ _ (rw there) ∙ skip _ _ _ (rw restoring-consistent) ∙ skip _ _ _ (rw (there, k .nodes id .parent-ok there)) ∙ skip _ _ _ (rw there) ∙ ap (λ (f : Link → Bool). first ((any f (T .links), Error.Relied) ∷ [])) (λ i l. restoring-blocks l i)
+
+-- a last test that does not apply
+drop-last : (b : Bool) (e x : Error) → first ((b, e) ∷ (false, x) ∷ []) ≡ first ((b, e) ∷ [])
+unfolding first
+drop-last b e x = refl
+
+-- remove: an absent node is refused by a present child, and by nothing else
+module _ (T : Tables) (id : ℕ) (k : Safe T) (p : Passed (retiredTests (nodeAt (T .nodes) id))) where
+  was-there : present (T .nodes) id ≡ true
+  was-there = not-f _ (p .0)
+
+  was-inactive : isInactive ((nodeAt (T .nodes) id) .phase) ≡ true
+  was-inactive = and-r ((nodeAt (T .nodes) id) .retired) _ (not-f _ (p .1 .0))
+
+  was-kept : (nodeAt (T .nodes) id) .restoring ≡ false
+  was-kept = go (cases ((nodeAt (T .nodes) id) .restoring))
+    where
+      go : ((nodeAt (T .nodes) id) .restoring ≡ true) ⊎ ((nodeAt (T .nodes) id) .restoring ≡ false) → (nodeAt (T .nodes) id) .restoring ≡ false
+      go (inl r) = clash _ was-inactive (not-t (isInactive ((nodeAt (T .nodes) id) .phase)) (unloading-installed ((nodeAt (T .nodes) id) .phase) (k .nodes id .restoring-unloading r)))
+      go (inr r) = r
+
+  -- no live link has it as an end
+  no-end : (l : Link) → List·Memᴰ l (T .links) → blocks id (absentNode (nodeAt (T .nodes) id)) l ≡ false
+  unfolding blocks
+  no-end l m = go (cases (l .live))
+    where
+      away : (i : ℕ) → notInactive (T .nodes) i ≡ true → i ≡ id → ⊥
+      away i h e = clash {A = ⊥} (isInactive ((nodeAt (T .nodes) id) .phase)) was-inactive (not-t (isInactive ((nodeAt (T .nodes) id) .phase)) (rw e at h))
+
+      go : (l .live ≡ true) ⊎ (l .live ≡ false) → blocks id (absentNode (nodeAt (T .nodes) id)) l ≡ false
+      go (inl v) = let o : LiveOk (T .nodes) (T .declarations) (l .consumer) (l .binding) = k .live l m v in rw (v, ne-eqb (l .consumer) id (away (l .consumer) (o .consumer-installed)), ne-eqb (l .binding .provider) id (away (l .binding .provider) (o .provider-installed)))
+      go (inr v) = rw v
+
+  pub update-to-absent : first (updateTests T id (absentNode (nodeAt (T .nodes) id))) ≡ first ((any (isChildOf id) (T .nodes), Error.Children) ∷ [])
+  update-to-absent = skip _ _ _ (rw was-there) ∙ skip _ _ _ (rw (was-inactive, was-kept)) ∙ skip false Error.Unknown _ refl ∙ ap (λ (b : Bool). first ((any (isChildOf id) (T .nodes), Error.Children) ∷ (b, Error.Relied) ∷ [])) (none-any (blocks id (absentNode (nodeAt (T .nodes) id))) (T .links) no-end) ∙ drop-last (any (isChildOf id) (T .nodes)) Error.Children Error.Relied

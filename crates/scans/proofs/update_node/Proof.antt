@@ -1,76 +1,103 @@
--- `scans::update_node` meets its contract: its tests are the row in order.
-use mathlib.Core.Path.{_∙_, ap, sym}
-use mathlib.Core.Bool.{Bool, _&&_, not}
+-- `scans::update_node` meets its contract: what check_update answers, then the links.
+use mathlib.Core.Path.{_≡_, _∙_, ap, sym}
+use mathlib.Core.Bool.{false, true}
 use mathlib.Core.List.{[]}
 use mathlib.Core.Option.{Option}
+use Prim.Native.Nat.{_-_}
 use native.Mathlib.Omega.{arith}
+use lib.ListN.{take}
+use lib.Seq.{slice}
 use borrow.Author.Needs.{needs}
 use Rattle.model.specs.declared.Error.{Error}
-use Rattle.model.specs.declared.Node.{Node}
-use Rattle.model.proofs.Laws.Refusals.{of-passed, skip, stop}
+use Rattle.model.proofs.Laws.Refusals.{done-passed, of-passed, passed-first, refused-among, skip, stop}
 use Rattle.model.specs.Answers.{answer}
+use Rattle.model.specs.Lists.{any}
+use Rattle.model.specs.Records.{blankLink}
 use Rattle.model.specs.Refusals.{Reply, orElse}
-use Rattle.scans.proofs.Laws.Parents.{node-below, node-past}
+use Rattle.model.specs.UpdateNode.{blocks, updateNodeTests}
+use Rattle.scans.proofs.Laws.Scan.{any-done, any-hit, any-next, part-done, part-next, take-most}
 use Rattle.scans.proofs.update_node.Statement.{statement}
 use Rattle.scans.proofs.update_node.Tie as tie
 
-at-most-requires : tie.Need-at-most-requires
+abbrev Inv-loop : tie.InvT-loop
+Inv-loop issued linked id node links end i₀ i = any (blocks id node) (slice i end links) ≡ any (blocks id node) (take linked links)
+
+abbrev μ-loop : tie.MeasureT-loop
+μ-loop issued linked id node links end i₀ i = end - i
+
+check-update-requires : tie.Need-check-update-requires Inv-loop μ-loop
+check-update-requires c κs = search needs
+
+enum-known-checked : tie.Need-enum-known-checked Inv-loop μ-loop
+enum-known-checked c = search needs
+
+returns : tie.Need-returns Inv-loop μ-loop
+returns c =
+    let a = c .before .before .before .before .args in
+    sym (ap (λ (o : Option Error). answer (orElse o Reply.done)) (refused-among (updateNodeTests (take (a .issued) (a .nodes)) (a .id) (a .node)) _ _ _ (c .before .before .before .check-update .ensures) (c .before .checked .given .1)))
+
+enum-told : tie.Need-enum-told Inv-loop μ-loop
+enum-told c = search needs
+
+at-most-requires : tie.Need-at-most-requires Inv-loop μ-loop
 at-most-requires c κs = search needs
 
-returns : tie.Need-returns
-returns c = sym (ap (λ (o : Option Error). answer (orElse o Reply.done)) (stop _ _ _ (ap (λ (x : Node). not (x .present)) (node-past (c .before .before .args .issued) _ (c .before .before .args .t1) (c .before .before .args .id) (omega arith) (c .before .at-most .ensures) (c .if1 .taken)))))
+loop-holds : tie.Need-loop-holds Inv-loop μ-loop
+loop-holds c =
+    let a = c .before .before .before .before .args in
+    ap (any (blocks (a .id) (a .node))) (take-most (a .linked) 512 _ (a .t3) (omega arith) (c .at-most .ensures))
 
-mul-old : tie.Need-mul-old
-mul-old c = search needs
+mul-l : tie.Need-mul-l Inv-loop μ-loop
+mul-l c = omega arith
 
-array-copy-out-old : tie.Need-array-copy-out-old
-array-copy-out-old c = search needs
+array-copy-out-l : tie.Need-array-copy-out-l Inv-loop μ-loop
+array-copy-out-l c = omega arith
 
-returns-2 : tie.Need-returns-2
-returns-2 c = sym (ap (λ (o : Option Error). answer (orElse o Reply.done)) (stop _ _ _ (ap (λ (x : Node). not (x .present)) (node-below (c .before .before .before .before .before .args .issued) (c .before .before .before .before .before .args .t1) (c .before .before .before .before .before .args .id) (omega arith)) ∙ c .if2 .taken)))
+blocks-requires : tie.Need-blocks-requires Inv-loop μ-loop
+blocks-requires c κs = search needs
 
-is-consistent-requires : tie.Need-is-consistent-requires
-is-consistent-requires c κs = search needs
+returns-2 : tie.Need-returns-2 Inv-loop μ-loop
+returns-2 c =
+    let a = c .before .before .before .before .before .before .before .before .before .args in
+    let j = c .before .before .before .before .loop in
+    let hit : any (blocks (a .id) (a .node)) (take (a .linked) (a .t3)) ≡ true = sym (any-hit (blocks (a .id) (a .node)) _ _ _ _ (part-next blankLink (j .i) (c .before .before .before .before .before .at-most .result) (a .t3) (omega arith) (omega arith)) (j .inv) (sym (c .before .blocks2 .ensures) ∙ c .if1 .taken)) in
+    sym (ap (λ (o : Option Error). answer (orElse o Reply.done)) (passed-first (updateNodeTests (take (a .issued) (a .nodes)) (a .id) (a .node)) _ (done-passed _ _ (c .before .before .before .before .before .before .before .before .check-update .ensures) (c .before .before .before .before .before .before .enum-told .given .1)) ∙ stop _ _ _ hit))
 
-returns-3 : tie.Need-returns-3
-returns-3 c = sym (ap (λ (o : Option Error). answer (orElse o Reply.done)) (skip _ _ _ (ap (λ (x : Node). not (x .present)) (node-below (c .before .before .before .before .before .before .before .args .issued) (c .before .before .before .before .before .before .before .args .t1) (c .before .before .before .before .before .before .before .args .id) (omega arith)) ∙ c .before .before .if2 .left) ∙ stop _ _ _ (ap not (sym (c .before .is-consistent .ensures)) ∙ c .if3 .taken)))
+add-i : tie.Need-add-i Inv-loop μ-loop
+add-i c = omega arith
 
-parent-ok-requires : tie.Need-parent-ok-requires
-parent-ok-requires c κs = search needs
+loop-less : tie.Need-loop-less Inv-loop μ-loop
+loop-less c = omega arith
 
-returns-4 : tie.Need-returns-4
-returns-4 c = sym (ap (λ (o : Option Error). answer (orElse o Reply.done)) (skip _ _ _ (ap (λ (x : Node). not (x .present)) (node-below (c .before .before .before .before .before .before .before .before .before .before .args .issued) (c .before .before .before .before .before .before .before .before .before .before .args .t1) (c .before .before .before .before .before .before .before .before .before .before .args .id) (omega arith)) ∙ c .before .before .before .before .before .if2 .left) ∙ skip _ _ _ (ap not (sym (c .before .before .before .before .is-consistent .ensures)) ∙ c .before .before .before .if3 .left) ∙ stop _ _ _ (ap (λ (b : Bool). (c .before .before .before .before .before .before .before .before .before .before .args .node) .present && not b) (sym (c .before .before .parent-ok .ensures)) ∙ c .if4 .taken)))
+loop-again : tie.Need-loop-again Inv-loop μ-loop
+loop-again c =
+    let a = c .before .before .before .before .before .before .before .before .before .args in
+    let j = c .before .before .before .before .loop in
+    any-next (blocks (a .id) (a .node)) _ _ _ _ (part-next blankLink (j .i) (c .before .before .before .before .before .at-most .result) (a .t3) (omega arith) (omega arith)) (j .inv) (sym (c .before .blocks2 .ensures) ∙ c .if1 .left)
 
-has-child-requires : tie.Need-has-child-requires
-has-child-requires c κs = search needs
-
-returns-5 : tie.Need-returns-5
-returns-5 c = sym (ap (λ (o : Option Error). answer (orElse o Reply.done)) (skip _ _ _ (ap (λ (x : Node). not (x .present)) (node-below (c .before .before .before .before .before .before .before .before .before .before .before .before .before .args .issued) (c .before .before .before .before .before .before .before .before .before .before .before .before .before .args .t1) (c .before .before .before .before .before .before .before .before .before .before .before .before .before .args .id) (omega arith)) ∙ c .before .before .before .before .before .before .before .before .if2 .left) ∙ skip _ _ _ (ap not (sym (c .before .before .before .before .before .before .before .is-consistent .ensures)) ∙ c .before .before .before .before .before .before .if3 .left) ∙ skip _ _ _ (ap (λ (b : Bool). (c .before .before .before .before .before .before .before .before .before .before .before .before .before .args .node) .present && not b) (sym (c .before .before .before .before .before .parent-ok .ensures)) ∙ c .before .before .before .if4 .left) ∙ stop _ _ _ (ap (λ (b : Bool). not ((c .before .before .before .before .before .before .before .before .before .before .before .before .before .args .node) .present) && b) (sym (c .before .before .has-child .ensures)) ∙ c .if5 .taken)))
-
-blocked-requires : tie.Need-blocked-requires
-blocked-requires c κs = search needs
-
-returns-6 : tie.Need-returns-6
-returns-6 c = sym (ap (λ (o : Option Error). answer (orElse o Reply.done)) (skip _ _ _ (ap (λ (x : Node). not (x .present)) (node-below (c .before .before .before .before .before .before .before .before .before .before .before .before .before .before .before .args .issued) (c .before .before .before .before .before .before .before .before .before .before .before .before .before .before .before .args .t1) (c .before .before .before .before .before .before .before .before .before .before .before .before .before .before .before .args .id) (omega arith)) ∙ c .before .before .before .before .before .before .before .before .before .before .if2 .left) ∙ skip _ _ _ (ap not (sym (c .before .before .before .before .before .before .before .before .before .is-consistent .ensures)) ∙ c .before .before .before .before .before .before .before .before .if3 .left) ∙ skip _ _ _ (ap (λ (b : Bool). (c .before .before .before .before .before .before .before .before .before .before .before .before .before .before .before .args .node) .present && not b) (sym (c .before .before .before .before .before .before .before .parent-ok .ensures)) ∙ c .before .before .before .before .before .if4 .left) ∙ skip _ _ _ (ap (λ (b : Bool). not ((c .before .before .before .before .before .before .before .before .before .before .before .before .before .before .before .args .node) .present) && b) (sym (c .before .before .before .before .has-child .ensures)) ∙ c .before .before .if5 .left) ∙ stop _ _ _ (sym (c .before .blocked .ensures) ∙ c .if6 .taken)))
-
-returns-7 : tie.Need-returns-7
-returns-7 c = sym (ap (λ (o : Option Error). answer (orElse o Reply.done)) (skip _ _ _ (ap (λ (x : Node). not (x .present)) (node-below (c .before .before .before .before .before .before .before .before .before .before .before .before .before .before .before .args .issued) (c .before .before .before .before .before .before .before .before .before .before .before .before .before .before .before .args .t1) (c .before .before .before .before .before .before .before .before .before .before .before .before .before .before .before .args .id) (omega arith)) ∙ c .before .before .before .before .before .before .before .before .before .before .if2 .left) ∙ skip _ _ _ (ap not (sym (c .before .before .before .before .before .before .before .before .before .is-consistent .ensures)) ∙ c .before .before .before .before .before .before .before .before .if3 .left) ∙ skip _ _ _ (ap (λ (b : Bool). (c .before .before .before .before .before .before .before .before .before .before .before .before .before .before .before .args .node) .present && not b) (sym (c .before .before .before .before .before .before .before .parent-ok .ensures)) ∙ c .before .before .before .before .before .if4 .left) ∙ skip _ _ _ (ap (λ (b : Bool). not ((c .before .before .before .before .before .before .before .before .before .before .before .before .before .before .before .args .node) .present) && b) (sym (c .before .before .before .before .has-child .ensures)) ∙ c .before .before .if5 .left) ∙ skip _ _ _ (sym (c .before .blocked .ensures) ∙ c .if6 .left) ∙ of-passed [] tt))
+returns-3 : tie.Need-returns-3 Inv-loop μ-loop
+returns-3 c =
+    let a = c .before .before .before .before .before .before .args in
+    let none-blocks : any (blocks (a .id) (a .node)) (take (a .linked) (a .t3)) ≡ false = sym (any-done (blocks (a .id) (a .node)) _ _ (part-done (c .before .loop .i) (c .before .before .at-most .result) (a .t3) (c .loop-test .left)) (c .before .loop .inv)) in
+    sym (ap (λ (o : Option Error). answer (orElse o Reply.done)) (passed-first (updateNodeTests (take (a .issued) (a .nodes)) (a .id) (a .node)) _ (done-passed _ _ (c .before .before .before .before .before .check-update .ensures) (c .before .before .before .enum-told .given .1)) ∙ skip _ _ _ none-blocks ∙ of-passed [] tt))
 
 pub update-node-spec : {M : Type 1} → statement M
 update-node-spec =
     tie.close
     (tie.spec
-    at-most-requires
+    Inv-loop
+    μ-loop
+    check-update-requires
+    enum-known-checked
     returns
-    mul-old
-    array-copy-out-old
+    enum-told
+    at-most-requires
+    loop-holds
+    mul-l
+    array-copy-out-l
+    blocks-requires
     returns-2
-    is-consistent-requires
-    returns-3
-    parent-ok-requires
-    returns-4
-    has-child-requires
-    returns-5
-    blocked-requires
-    returns-6
-    returns-7)
+    add-i
+    loop-less
+    loop-again
+    returns-3)

@@ -1,25 +1,25 @@
 -- `kernel::Kernel::begin` meets its contract. In the loop the array holds the links below the count and a live link for each of the first i bindings, then blanks.
 use mathlib.Core.Path.{_∙_, _≡_, ap, sym}
-use mathlib.Core.Bool.{false, not, true}
 use Prim.Native.Nat.{_-_, _≤_}
-use native.Mathlib.Omega.{arith}
 use native.Mathlib.Numerals.{add-one}
-use lib.Dec.{eqb}
+use native.Mathlib.Omega.{arith}
 use lib.ListN.{getD, length, set}
 use borrow.Author.Needs.{needs}
-use borrow.Author.Tests.{eq-eqb, ne-eqb}
+use borrow.Author.Tests.{eqb-false}
 use Rattle.kernel.specs.declared.Kernel.{Kernel}
 use Rattle.model.specs.declared.Answer.{Answer}
 use Rattle.model.specs.declared.Error.{Error}
 use Rattle.kernel.proofs.Laws.Begin.{begun-laid, linked-next, linked-start, linkedTo, links-within, nodesPut, space-none, space-some, target-full, target-missing, target-most}
-use Rattle.kernel.proofs.Laws.Commanded.{absent-unknown, accepted-by, damaged, node-has, past-unknown, refused-by}
+use Rattle.kernel.proofs.Laws.Commanded.{accepted-by, damaged, node-passed, node-past, node-refused, past-unknown, refused-by}
+use Rattle.kernel.proofs.Laws.Declared.{full}
 use Rattle.kernel.proofs.Laws.Sized.{sized}
 use Rattle.kernel.proofs.Laws.Target.{target-held}
 use Rattle.kernel.specs.Outcomes.{outcome}
-use Rattle.model.proofs.Laws.Refusals.{skip, stop}
+use Rattle.model.proofs.Laws.Refusals.{done-passed, skip, stop}
 use Rattle.model.specs.Commands.{Command}
-use Rattle.model.specs.Records.{blankNode, isInactive}
-use Rattle.model.specs.Sizes.{lastGeneration}
+use Rattle.model.specs.Lifecycle.{beginNodeTests}
+use Rattle.model.specs.Records.{blankNode}
+use Rattle.model.specs.Resolution.{target}
 use Rattle.kernel.proofs.Kernel.begin.Statement.{statement}
 use Rattle.kernel.proofs.Kernel.begin.Tie as tie
 
@@ -33,10 +33,18 @@ sound-requires : tie.Need-sound-requires Inv-loop μ-loop
 sound-requires c κs = search needs
 
 returns : tie.Need-returns Inv-loop μ-loop
-returns c = sym (ap outcome (damaged (c .before .before .args .t1) (Command.begin (c .before .before .args .id)) (c .before .sound .result) (c .before .sound .ensures) (c .if1 .taken)))
+returns c =
+    let a = c .before .before .args in
+    sym (ap outcome (damaged (a .t1) (Command.begin (a .id)) (c .before .sound .result) (c .before .sound .ensures) (c .if1 .taken)))
 
 returns-2 : tie.Need-returns-2 Inv-loop μ-loop
-returns-2 c = sym (ap outcome (refused-by (c .before .before .before .args .t1) (sized (c .before .before .before .args .t1) (c .before .before .before .good .0, tt)) (c .before .before .sound .result) (c .before .before .sound .ensures) (c .before .if1 .left) (Command.begin (c .before .before .before .args .id)) Error.Unknown (past-unknown (c .before .before .before .args .t1) (sized (c .before .before .before .args .t1) (c .before .before .before .good .0, tt)) (c .before .before .sound .result) (c .before .before .sound .ensures) (c .before .if1 .left) (c .before .before .before .args .id) _ (c .if2 .taken))))
+returns-2 c =
+    let s = c .before .before .before in
+    let k = s .args .t1 in
+    let z = sized k (s .good .0, tt) in
+    let v = c .before .before .sound in
+    let t = c .before .if1 .left in
+    sym (ap outcome (refused-by k z (v .result) (v .ensures) t (Command.begin (s .args .id)) Error.Unknown (past-unknown k z (v .result) (v .ensures) t (s .args .id) _ (c .if2 .taken))))
 
 mul-node : tie.Need-mul-node Inv-loop μ-loop
 mul-node c = search needs
@@ -44,65 +52,131 @@ mul-node c = search needs
 element-copy-out-node : tie.Need-element-copy-out-node Inv-loop μ-loop
 element-copy-out-node c = search needs
 
+check-begin-requires : tie.Need-check-begin-requires Inv-loop μ-loop
+check-begin-requires c κs = search needs
+
+enum-known-checked : tie.Need-enum-known-checked Inv-loop μ-loop
+enum-known-checked c = search needs
+
 returns-3 : tie.Need-returns-3 Inv-loop μ-loop
-returns-3 c = sym (ap outcome (refused-by (c .before .before .before .before .before .before .args .t1) (sized (c .before .before .before .before .before .before .args .t1) (c .before .before .before .before .before .before .good .0, tt)) (c .before .before .before .before .before .sound .result) (c .before .before .before .before .before .sound .ensures) (c .before .before .before .before .if1 .left) (Command.begin (c .before .before .before .before .before .before .args .id)) Error.Unknown (absent-unknown (c .before .before .before .before .before .before .args .t1) (sized (c .before .before .before .before .before .before .args .t1) (c .before .before .before .before .before .before .good .0, tt)) (c .before .before .before .before .before .sound .result) (c .before .before .before .before .before .sound .ensures) (c .before .before .before .before .if1 .left) (c .before .before .before .before .before .before .args .id) _ (c .if3 .taken))))
+returns-3 c =
+    let s = c .before .before .before .before .before .before .before .before in
+    let k = s .args .t1 in
+    let z = sized k (s .good .0, tt) in
+    let v = c .before .before .before .before .before .before .before .sound in
+    let t = c .before .before .before .before .before .before .if1 .left in
+    sym (ap outcome (refused-by k z (v .result) (v .ensures) t (Command.begin (s .args .id)) _ (node-refused k z (v .result) (v .ensures) t (s .args .id) beginNodeTests _ _ _ (c .before .before .before .check-begin .ensures) (c .before .checked .given .1))))
 
-is-inactive-requires : tie.Need-is-inactive-requires Inv-loop μ-loop
-is-inactive-requires c κs = search needs
-
-returns-4 : tie.Need-returns-4 Inv-loop μ-loop
-returns-4 c = sym (ap outcome (refused-by (c .before .before .before .before .before .before .before .before .args .t1) (sized (c .before .before .before .before .before .before .before .before .args .t1) (c .before .before .before .before .before .before .before .before .good .0, tt)) (c .before .before .before .before .before .before .before .sound .result) (c .before .before .before .before .before .before .before .sound .ensures) (c .before .before .before .before .before .before .if1 .left) (Command.begin (c .before .before .before .before .before .before .before .before .args .id)) Error.InvalidState (skip _ _ _ (node-has (c .before .before .before .before .before .before .before .before .args .t1) (sized (c .before .before .before .before .before .before .before .before .args .t1) (c .before .before .before .before .before .before .before .before .good .0, tt)) (c .before .before .before .before .before .before .before .sound .result) (c .before .before .before .before .before .before .before .sound .ensures) (c .before .before .before .before .before .before .if1 .left) (λ n. not (n .present)) false (c .before .before .before .before .before .before .before .before .args .id) (c .before .before .if3 .left)) ∙ stop _ _ _ (node-has (c .before .before .before .before .before .before .before .before .args .t1) (sized (c .before .before .before .before .before .before .before .before .args .t1) (c .before .before .before .before .before .before .before .before .good .0, tt)) (c .before .before .before .before .before .before .before .sound .result) (c .before .before .before .before .before .before .before .sound .ensures) (c .before .before .before .before .before .before .if1 .left) (λ n. not (isInactive (n .phase))) true (c .before .before .before .before .before .before .before .before .args .id) (ap not (sym (c .before .is-inactive .ensures)) ∙ c .if4 .taken)))))
-
-returns-5 : tie.Need-returns-5 Inv-loop μ-loop
-returns-5 c = sym (ap outcome (refused-by (c .before .before .before .before .before .before .before .before .before .args .t1) (sized (c .before .before .before .before .before .before .before .before .before .args .t1) (c .before .before .before .before .before .before .before .before .before .good .0, tt)) (c .before .before .before .before .before .before .before .before .sound .result) (c .before .before .before .before .before .before .before .before .sound .ensures) (c .before .before .before .before .before .before .before .if1 .left) (Command.begin (c .before .before .before .before .before .before .before .before .before .args .id)) Error.Retired (skip _ _ _ (node-has (c .before .before .before .before .before .before .before .before .before .args .t1) (sized (c .before .before .before .before .before .before .before .before .before .args .t1) (c .before .before .before .before .before .before .before .before .before .good .0, tt)) (c .before .before .before .before .before .before .before .before .sound .result) (c .before .before .before .before .before .before .before .before .sound .ensures) (c .before .before .before .before .before .before .before .if1 .left) (λ n. not (n .present)) false (c .before .before .before .before .before .before .before .before .before .args .id) (c .before .before .before .if3 .left)) ∙ skip _ _ _ (node-has (c .before .before .before .before .before .before .before .before .before .args .t1) (sized (c .before .before .before .before .before .before .before .before .before .args .t1) (c .before .before .before .before .before .before .before .before .before .good .0, tt)) (c .before .before .before .before .before .before .before .before .sound .result) (c .before .before .before .before .before .before .before .before .sound .ensures) (c .before .before .before .before .before .before .before .if1 .left) (λ n. not (isInactive (n .phase))) false (c .before .before .before .before .before .before .before .before .before .args .id) (ap not (sym (c .before .before .is-inactive .ensures)) ∙ c .before .if4 .left)) ∙ stop _ _ _ (node-has (c .before .before .before .before .before .before .before .before .before .args .t1) (sized (c .before .before .before .before .before .before .before .before .before .args .t1) (c .before .before .before .before .before .before .before .before .before .good .0, tt)) (c .before .before .before .before .before .before .before .before .sound .result) (c .before .before .before .before .before .before .before .before .sound .ensures) (c .before .before .before .before .before .before .before .if1 .left) (λ n. n .retired) true (c .before .before .before .before .before .before .before .before .before .args .id) (c .if5 .taken)))))
-
-returns-6 : tie.Need-returns-6 Inv-loop μ-loop
-returns-6 c = sym (ap outcome (refused-by (c .before .before .before .before .before .before .before .before .before .before .before .args .t1) (sized (c .before .before .before .before .before .before .before .before .before .before .before .args .t1) (c .before .before .before .before .before .before .before .before .before .before .before .good .0, tt)) (c .before .before .before .before .before .before .before .before .before .before .sound .result) (c .before .before .before .before .before .before .before .before .before .before .sound .ensures) (c .before .before .before .before .before .before .before .before .before .if1 .left) (Command.begin (c .before .before .before .before .before .before .before .before .before .before .before .args .id)) Error.Capacity (skip _ _ _ (node-has (c .before .before .before .before .before .before .before .before .before .before .before .args .t1) (sized (c .before .before .before .before .before .before .before .before .before .before .before .args .t1) (c .before .before .before .before .before .before .before .before .before .before .before .good .0, tt)) (c .before .before .before .before .before .before .before .before .before .before .sound .result) (c .before .before .before .before .before .before .before .before .before .before .sound .ensures) (c .before .before .before .before .before .before .before .before .before .if1 .left) (λ n. not (n .present)) false (c .before .before .before .before .before .before .before .before .before .before .before .args .id) (c .before .before .before .before .before .if3 .left)) ∙ skip _ _ _ (node-has (c .before .before .before .before .before .before .before .before .before .before .before .args .t1) (sized (c .before .before .before .before .before .before .before .before .before .before .before .args .t1) (c .before .before .before .before .before .before .before .before .before .before .before .good .0, tt)) (c .before .before .before .before .before .before .before .before .before .before .sound .result) (c .before .before .before .before .before .before .before .before .before .before .sound .ensures) (c .before .before .before .before .before .before .before .before .before .if1 .left) (λ n. not (isInactive (n .phase))) false (c .before .before .before .before .before .before .before .before .before .before .before .args .id) (ap not (sym (c .before .before .before .before .is-inactive .ensures)) ∙ c .before .before .before .if4 .left)) ∙ skip _ _ _ (node-has (c .before .before .before .before .before .before .before .before .before .before .before .args .t1) (sized (c .before .before .before .before .before .before .before .before .before .before .before .args .t1) (c .before .before .before .before .before .before .before .before .before .before .before .good .0, tt)) (c .before .before .before .before .before .before .before .before .before .before .sound .result) (c .before .before .before .before .before .before .before .before .before .before .sound .ensures) (c .before .before .before .before .before .before .before .before .before .if1 .left) (λ n. n .retired) false (c .before .before .before .before .before .before .before .before .before .before .before .args .id) (c .before .before .if5 .left)) ∙ stop _ _ _ (node-has (c .before .before .before .before .before .before .before .before .before .before .before .args .t1) (sized (c .before .before .before .before .before .before .before .before .before .before .before .args .t1) (c .before .before .before .before .before .before .before .before .before .before .before .good .0, tt)) (c .before .before .before .before .before .before .before .before .before .before .sound .result) (c .before .before .before .before .before .before .before .before .before .before .sound .ensures) (c .before .before .before .before .before .before .before .before .before .if1 .left) (λ n. eqb (n .generation) lastGeneration) true (c .before .before .before .before .before .before .before .before .before .before .before .args .id) (eq-eqb _ _ (c .if6 .taken))))))
+enum-told : tie.Need-enum-told Inv-loop μ-loop
+enum-told c = search needs
 
 target-table-requires : tie.Need-target-table-requires Inv-loop μ-loop
 target-table-requires c κs = search needs
 
-returns-7 : tie.Need-returns-7 Inv-loop μ-loop
-returns-7 c = sym (ap outcome (refused-by (c .before .before .before .before .before .before .before .before .before .before .before .before .before .before .before .args .t1) (sized (c .before .before .before .before .before .before .before .before .before .before .before .before .before .before .before .args .t1) (c .before .before .before .before .before .before .before .before .before .before .before .before .before .before .before .good .0, tt)) (c .before .before .before .before .before .before .before .before .before .before .before .before .before .before .sound .result) (c .before .before .before .before .before .before .before .before .before .before .before .before .before .before .sound .ensures) (c .before .before .before .before .before .before .before .before .before .before .before .before .before .if1 .left) (Command.begin (c .before .before .before .before .before .before .before .before .before .before .before .before .before .before .before .args .id)) Error.MissingDependency (skip _ _ _ (node-has (c .before .before .before .before .before .before .before .before .before .before .before .before .before .before .before .args .t1) (sized (c .before .before .before .before .before .before .before .before .before .before .before .before .before .before .before .args .t1) (c .before .before .before .before .before .before .before .before .before .before .before .before .before .before .before .good .0, tt)) (c .before .before .before .before .before .before .before .before .before .before .before .before .before .before .sound .result) (c .before .before .before .before .before .before .before .before .before .before .before .before .before .before .sound .ensures) (c .before .before .before .before .before .before .before .before .before .before .before .before .before .if1 .left) (λ n. not (n .present)) false (c .before .before .before .before .before .before .before .before .before .before .before .before .before .before .before .args .id) (c .before .before .before .before .before .before .before .before .before .if3 .left)) ∙ skip _ _ _ (node-has (c .before .before .before .before .before .before .before .before .before .before .before .before .before .before .before .args .t1) (sized (c .before .before .before .before .before .before .before .before .before .before .before .before .before .before .before .args .t1) (c .before .before .before .before .before .before .before .before .before .before .before .before .before .before .before .good .0, tt)) (c .before .before .before .before .before .before .before .before .before .before .before .before .before .before .sound .result) (c .before .before .before .before .before .before .before .before .before .before .before .before .before .before .sound .ensures) (c .before .before .before .before .before .before .before .before .before .before .before .before .before .if1 .left) (λ n. not (isInactive (n .phase))) false (c .before .before .before .before .before .before .before .before .before .before .before .before .before .before .before .args .id) (ap not (sym (c .before .before .before .before .before .before .before .before .is-inactive .ensures)) ∙ c .before .before .before .before .before .before .before .if4 .left)) ∙ skip _ _ _ (node-has (c .before .before .before .before .before .before .before .before .before .before .before .before .before .before .before .args .t1) (sized (c .before .before .before .before .before .before .before .before .before .before .before .before .before .before .before .args .t1) (c .before .before .before .before .before .before .before .before .before .before .before .before .before .before .before .good .0, tt)) (c .before .before .before .before .before .before .before .before .before .before .before .before .before .before .sound .result) (c .before .before .before .before .before .before .before .before .before .before .before .before .before .before .sound .ensures) (c .before .before .before .before .before .before .before .before .before .before .before .before .before .if1 .left) (λ n. n .retired) false (c .before .before .before .before .before .before .before .before .before .before .before .before .before .before .before .args .id) (c .before .before .before .before .before .before .if5 .left)) ∙ skip _ _ _ (node-has (c .before .before .before .before .before .before .before .before .before .before .before .before .before .before .before .args .t1) (sized (c .before .before .before .before .before .before .before .before .before .before .before .before .before .before .before .args .t1) (c .before .before .before .before .before .before .before .before .before .before .before .before .before .before .before .good .0, tt)) (c .before .before .before .before .before .before .before .before .before .before .before .before .before .before .sound .result) (c .before .before .before .before .before .before .before .before .before .before .before .before .before .before .sound .ensures) (c .before .before .before .before .before .before .before .before .before .before .before .before .before .if1 .left) (λ n. eqb (n .generation) lastGeneration) false (c .before .before .before .before .before .before .before .before .before .before .before .before .before .before .before .args .id) (ne-eqb _ _ (c .before .before .before .before .if6 .left))) ∙ stop _ _ _ (target-missing (c .before .before .before .before .before .before .before .before .before .before .before .before .before .before .before .args .t1) (sized (c .before .before .before .before .before .before .before .before .before .before .before .before .before .before .before .args .t1) (c .before .before .before .before .before .before .before .before .before .before .before .before .before .before .before .good .0, tt)) (c .before .before .before .before .before .before .before .before .before .before .before .before .before .before .sound .result) (c .before .before .before .before .before .before .before .before .before .before .before .before .before .before .sound .ensures) (c .before .before .before .before .before .before .before .before .before .before .before .before .before .if1 .left) (c .before .before .before .before .before .before .before .before .before .before .before .before .before .before .before .args .id) (c .before .target-table .result) (target-held (c .before .before .before .before .before .before .before .before .before .before .before .before .before .before .before .args .t1) (sized (c .before .before .before .before .before .before .before .before .before .before .before .before .before .before .before .args .t1) (c .before .before .before .before .before .before .before .before .before .before .before .before .before .before .before .good .0, tt)) (c .before .before .before .before .before .before .before .before .before .before .before .before .before .before .sound .result) (c .before .before .before .before .before .before .before .before .before .before .before .before .before .before .sound .ensures) (c .before .before .before .before .before .before .before .before .before .before .before .before .before .if1 .left) (c .before .before .before .before .before .before .before .before .before .before .before .before .before .before .before .args .id) (c .before .target-table .result) (c .before .target-table .ensures) (c .before .before .before .before .before .before .before .before .before .if3 .left) (c .before .before .before .before .before .before .if5 .left)) ∙ c .if7 .taken))))
+returns-4 : tie.Need-returns-4 Inv-loop μ-loop
+returns-4 c =
+    let s = c .before .before .before .before .before .before .before .before .before .before .before in
+    let k = s .args .t1 in
+    let z = sized k (s .good .0, tt) in
+    let v = c .before .before .before .before .before .before .before .before .before .before .sound in
+    let t = c .before .before .before .before .before .before .before .before .before .if1 .left in
+    let q = done-passed (beginNodeTests (getD (k .nodes) (s .args .id) blankNode)) _ (c .before .before .before .before .before .before .check-begin .ensures) (c .before .before .before .before .enum-told .given .1) in
+    let g = c .before .target-table .result in
+    let b = target-held k z (v .result) (v .ensures) t (s .args .id) g (c .before .target-table .ensures) (q .0) (q .1 .1 .0) in
+    sym (ap outcome (refused-by k z (v .result) (v .ensures) t (Command.begin (s .args .id)) Error.MissingDependency (node-past k z (v .result) (v .ensures) t (s .args .id) beginNodeTests _ _ (c .before .before .before .before .before .before .check-begin .ensures) (c .before .before .before .before .enum-told .given .1) ∙ stop _ _ _ (target-missing k z (v .result) (v .ensures) t (s .args .id) g b ∙ c .if3 .taken))))
 
-sub-if8 : tie.Need-sub-if8 Inv-loop μ-loop
-sub-if8 c = omega (arith, links-within (c .before .before .before .before .before .before .before .before .before .before .before .before .before .before .before .args .t1) (sized (c .before .before .before .before .before .before .before .before .before .before .before .before .before .before .before .args .t1) (c .before .before .before .before .before .before .before .before .before .before .before .before .before .before .before .good .0, tt)) (c .before .before .before .before .before .before .before .before .before .before .before .before .before .before .sound .result) (c .before .before .before .before .before .before .before .before .before .before .before .before .before .before .sound .ensures) (c .before .before .before .before .before .before .before .before .before .before .before .before .before .if1 .left))
+sub-if4 : tie.Need-sub-if4 Inv-loop μ-loop
+sub-if4 c =
+    let s = c .before .before .before .before .before .before .before .before .before .before .before in
+    let k = s .args .t1 in
+    let z = sized k (s .good .0, tt) in
+    let v = c .before .before .before .before .before .before .before .before .before .before .sound in
+    let t = c .before .before .before .before .before .before .before .before .before .if1 .left in
+    omega (arith, links-within k z (v .result) (v .ensures) t)
 
-returns-8 : tie.Need-returns-8 Inv-loop μ-loop
-returns-8 c = sym (ap outcome (refused-by (c .before .before .before .before .before .before .before .before .before .before .before .before .before .before .before .before .args .t1) (sized (c .before .before .before .before .before .before .before .before .before .before .before .before .before .before .before .before .args .t1) (c .before .before .before .before .before .before .before .before .before .before .before .before .before .before .before .before .good .0, tt)) (c .before .before .before .before .before .before .before .before .before .before .before .before .before .before .before .sound .result) (c .before .before .before .before .before .before .before .before .before .before .before .before .before .before .before .sound .ensures) (c .before .before .before .before .before .before .before .before .before .before .before .before .before .before .if1 .left) (Command.begin (c .before .before .before .before .before .before .before .before .before .before .before .before .before .before .before .before .args .id)) Error.Capacity (skip _ _ _ (node-has (c .before .before .before .before .before .before .before .before .before .before .before .before .before .before .before .before .args .t1) (sized (c .before .before .before .before .before .before .before .before .before .before .before .before .before .before .before .before .args .t1) (c .before .before .before .before .before .before .before .before .before .before .before .before .before .before .before .before .good .0, tt)) (c .before .before .before .before .before .before .before .before .before .before .before .before .before .before .before .sound .result) (c .before .before .before .before .before .before .before .before .before .before .before .before .before .before .before .sound .ensures) (c .before .before .before .before .before .before .before .before .before .before .before .before .before .before .if1 .left) (λ n. not (n .present)) false (c .before .before .before .before .before .before .before .before .before .before .before .before .before .before .before .before .args .id) (c .before .before .before .before .before .before .before .before .before .before .if3 .left)) ∙ skip _ _ _ (node-has (c .before .before .before .before .before .before .before .before .before .before .before .before .before .before .before .before .args .t1) (sized (c .before .before .before .before .before .before .before .before .before .before .before .before .before .before .before .before .args .t1) (c .before .before .before .before .before .before .before .before .before .before .before .before .before .before .before .before .good .0, tt)) (c .before .before .before .before .before .before .before .before .before .before .before .before .before .before .before .sound .result) (c .before .before .before .before .before .before .before .before .before .before .before .before .before .before .before .sound .ensures) (c .before .before .before .before .before .before .before .before .before .before .before .before .before .before .if1 .left) (λ n. not (isInactive (n .phase))) false (c .before .before .before .before .before .before .before .before .before .before .before .before .before .before .before .before .args .id) (ap not (sym (c .before .before .before .before .before .before .before .before .before .is-inactive .ensures)) ∙ c .before .before .before .before .before .before .before .before .if4 .left)) ∙ skip _ _ _ (node-has (c .before .before .before .before .before .before .before .before .before .before .before .before .before .before .before .before .args .t1) (sized (c .before .before .before .before .before .before .before .before .before .before .before .before .before .before .before .before .args .t1) (c .before .before .before .before .before .before .before .before .before .before .before .before .before .before .before .before .good .0, tt)) (c .before .before .before .before .before .before .before .before .before .before .before .before .before .before .before .sound .result) (c .before .before .before .before .before .before .before .before .before .before .before .before .before .before .before .sound .ensures) (c .before .before .before .before .before .before .before .before .before .before .before .before .before .before .if1 .left) (λ n. n .retired) false (c .before .before .before .before .before .before .before .before .before .before .before .before .before .before .before .before .args .id) (c .before .before .before .before .before .before .before .if5 .left)) ∙ skip _ _ _ (node-has (c .before .before .before .before .before .before .before .before .before .before .before .before .before .before .before .before .args .t1) (sized (c .before .before .before .before .before .before .before .before .before .before .before .before .before .before .before .before .args .t1) (c .before .before .before .before .before .before .before .before .before .before .before .before .before .before .before .before .good .0, tt)) (c .before .before .before .before .before .before .before .before .before .before .before .before .before .before .before .sound .result) (c .before .before .before .before .before .before .before .before .before .before .before .before .before .before .before .sound .ensures) (c .before .before .before .before .before .before .before .before .before .before .before .before .before .before .if1 .left) (λ n. eqb (n .generation) lastGeneration) false (c .before .before .before .before .before .before .before .before .before .before .before .before .before .before .before .before .args .id) (ne-eqb _ _ (c .before .before .before .before .before .if6 .left))) ∙ skip _ _ _ (target-missing (c .before .before .before .before .before .before .before .before .before .before .before .before .before .before .before .before .args .t1) (sized (c .before .before .before .before .before .before .before .before .before .before .before .before .before .before .before .before .args .t1) (c .before .before .before .before .before .before .before .before .before .before .before .before .before .before .before .before .good .0, tt)) (c .before .before .before .before .before .before .before .before .before .before .before .before .before .before .before .sound .result) (c .before .before .before .before .before .before .before .before .before .before .before .before .before .before .before .sound .ensures) (c .before .before .before .before .before .before .before .before .before .before .before .before .before .before .if1 .left) (c .before .before .before .before .before .before .before .before .before .before .before .before .before .before .before .before .args .id) (c .before .before .target-table .result) (target-held (c .before .before .before .before .before .before .before .before .before .before .before .before .before .before .before .before .args .t1) (sized (c .before .before .before .before .before .before .before .before .before .before .before .before .before .before .before .before .args .t1) (c .before .before .before .before .before .before .before .before .before .before .before .before .before .before .before .before .good .0, tt)) (c .before .before .before .before .before .before .before .before .before .before .before .before .before .before .before .sound .result) (c .before .before .before .before .before .before .before .before .before .before .before .before .before .before .before .sound .ensures) (c .before .before .before .before .before .before .before .before .before .before .before .before .before .before .if1 .left) (c .before .before .before .before .before .before .before .before .before .before .before .before .before .before .before .before .args .id) (c .before .before .target-table .result) (c .before .before .target-table .ensures) (c .before .before .before .before .before .before .before .before .before .before .if3 .left) (c .before .before .before .before .before .before .before .if5 .left)) ∙ c .before .if7 .left) ∙ stop _ _ _ (space-none (c .before .before .before .before .before .before .before .before .before .before .before .before .before .before .before .before .args .t1) (sized (c .before .before .before .before .before .before .before .before .before .before .before .before .before .before .before .before .args .t1) (c .before .before .before .before .before .before .before .before .before .before .before .before .before .before .before .before .good .0, tt)) (c .before .before .before .before .before .before .before .before .before .before .before .before .before .before .before .sound .result) (c .before .before .before .before .before .before .before .before .before .before .before .before .before .before .before .sound .ensures) (c .before .before .before .before .before .before .before .before .before .before .before .before .before .before .if1 .left) (c .before .before .before .before .before .before .before .before .before .before .before .before .before .before .before .before .args .id) (c .before .before .target-table .result) (target-held (c .before .before .before .before .before .before .before .before .before .before .before .before .before .before .before .before .args .t1) (sized (c .before .before .before .before .before .before .before .before .before .before .before .before .before .before .before .before .args .t1) (c .before .before .before .before .before .before .before .before .before .before .before .before .before .before .before .before .good .0, tt)) (c .before .before .before .before .before .before .before .before .before .before .before .before .before .before .before .sound .result) (c .before .before .before .before .before .before .before .before .before .before .before .before .before .before .before .sound .ensures) (c .before .before .before .before .before .before .before .before .before .before .before .before .before .before .if1 .left) (c .before .before .before .before .before .before .before .before .before .before .before .before .before .before .before .before .args .id) (c .before .before .target-table .result) (c .before .before .target-table .ensures) (c .before .before .before .before .before .before .before .before .before .before .if3 .left) (c .before .before .before .before .before .before .before .if5 .left)) (c .if8 .taken)))))
+returns-5 : tie.Need-returns-5 Inv-loop μ-loop
+returns-5 c =
+    let s = c .before .before .before .before .before .before .before .before .before .before .before .before in
+    let k = s .args .t1 in
+    let z = sized k (s .good .0, tt) in
+    let v = c .before .before .before .before .before .before .before .before .before .before .before .sound in
+    let t = c .before .before .before .before .before .before .before .before .before .before .if1 .left in
+    let q = done-passed (beginNodeTests (getD (k .nodes) (s .args .id) blankNode)) _ (c .before .before .before .before .before .before .before .check-begin .ensures) (c .before .before .before .before .before .enum-told .given .1) in
+    let g = c .before .before .target-table .result in
+    let b = target-held k z (v .result) (v .ensures) t (s .args .id) g (c .before .before .target-table .ensures) (q .0) (q .1 .1 .0) in
+    sym (ap outcome (refused-by k z (v .result) (v .ensures) t (Command.begin (s .args .id)) Error.Capacity (node-past k z (v .result) (v .ensures) t (s .args .id) beginNodeTests _ _ (c .before .before .before .before .before .before .before .check-begin .ensures) (c .before .before .before .before .before .enum-told .given .1) ∙ skip _ _ _ (target-missing k z (v .result) (v .ensures) t (s .args .id) g b ∙ c .before .if3 .left) ∙ stop _ _ _ (space-none k z (v .result) (v .ensures) t (s .args .id) g b (c .if4 .taken)))))
 
 add-started-node : tie.Need-add-started-node Inv-loop μ-loop
-add-started-node c = let d : (getD (c .before .before .before .before .before .before .before .before .before .before .before .before .before .before .before .before .before .args .t1 .nodes) (c .before .before .before .before .before .before .before .before .before .before .before .before .before .before .before .before .before .args .id) blankNode) .generation ≡ 18446744073709551615 → ⊥ = c .before .before .before .before .before .before .if6 .left in let g = c .struct-known3 .given in omega arith
+add-started-node c =
+    let s = c .before .before .before .before .before .before .before .before .before .before .before .before .before in
+    let k = s .args .t1 in
+    let z = sized k (s .good .0, tt) in
+    let v = c .before .before .before .before .before .before .before .before .before .before .before .before .sound in
+    let t = c .before .before .before .before .before .before .before .before .before .before .before .if1 .left in
+    let q = done-passed (beginNodeTests (getD (k .nodes) (s .args .id) blankNode)) _ (c .before .before .before .before .before .before .before .before .check-begin .ensures) (c .before .before .before .before .before .before .enum-told .given .1) in
+    let d : (getD (k .nodes) (s .args .id) blankNode) .generation ≡ 18446744073709551615 → ⊥ = eqb-false _ _ (q .1 .1 .1 .0) in
+    let g = c .struct-known .given in
+    omega arith
 
 started-node-requires : tie.Need-started-node-requires Inv-loop μ-loop
 started-node-requires c κs = search needs
 
-mul-t23 : tie.Need-mul-t23 Inv-loop μ-loop
-mul-t23 c = search needs
+mul-t24 : tie.Need-mul-t24 Inv-loop μ-loop
+mul-t24 c = search needs
 
 element-set-from-self : tie.Need-element-set-from-self Inv-loop μ-loop
 element-set-from-self c = search needs
 
 loop-holds : tie.Need-loop-holds Inv-loop μ-loop
-loop-holds c = (omega arith, linked-start (c .before .before .before .before .before .before .before .before .before .before .before .before .before .before .before .before .before .before .args .t1) (sized (c .before .before .before .before .before .before .before .before .before .before .before .before .before .before .before .before .before .before .args .t1) (c .before .before .before .before .before .before .before .before .before .before .before .before .before .before .before .before .before .before .good .0, tt)) (c .before .before .before .before .before .before .before .before .before .before .before .before .before .before .before .before .before .sound .result) (c .before .before .before .before .before .before .before .before .before .before .before .before .before .before .before .before .before .sound .ensures) (c .before .before .before .before .before .before .before .before .before .before .before .before .before .before .before .before .if1 .left) (c .before .before .before .before .before .before .before .before .before .before .before .before .before .before .before .before .before .before .args .id) _ (c .before .before .before .before .target-table .result .bindings))
+loop-holds c =
+    let s = c .before .before .before .before .before .before .before .before .before .before .before .before .before .before in
+    let k = s .args .t1 in
+    let z = sized k (s .good .0, tt) in
+    let v = c .before .before .before .before .before .before .before .before .before .before .before .before .before .sound in
+    let t = c .before .before .before .before .before .before .before .before .before .before .before .before .if1 .left in
+    (omega arith, linked-start k z (v .result) (v .ensures) t (s .args .id) _ (c .before .before .before .before .target-table .result .bindings))
 
 mul-b : tie.Need-mul-b Inv-loop μ-loop
 mul-b c = search needs
 
 element-copy-out-b : tie.Need-element-copy-out-b Inv-loop μ-loop
-element-copy-out-b c = let m : c .before .before .before .before .before .before .target-table .result .count ≤ 256 = target-most (c .before .before .before .before .before .before .before .before .before .before .before .before .before .before .before .before .before .before .before .before .args .t1) (sized (c .before .before .before .before .before .before .before .before .before .before .before .before .before .before .before .before .before .before .before .before .args .t1) (c .before .before .before .before .before .before .before .before .before .before .before .before .before .before .before .before .before .before .before .before .good .0, tt)) (c .before .before .before .before .before .before .before .before .before .before .before .before .before .before .before .before .before .before .before .sound .result) (c .before .before .before .before .before .before .before .before .before .before .before .before .before .before .before .before .before .before .before .sound .ensures) (c .before .before .before .before .before .before .before .before .before .before .before .before .before .before .before .before .before .before .if1 .left) (c .before .before .before .before .before .before .before .before .before .before .before .before .before .before .before .before .before .before .before .before .args .id) (c .before .before .before .before .before .before .target-table .result) (target-held (c .before .before .before .before .before .before .before .before .before .before .before .before .before .before .before .before .before .before .before .before .args .t1) (sized (c .before .before .before .before .before .before .before .before .before .before .before .before .before .before .before .before .before .before .before .before .args .t1) (c .before .before .before .before .before .before .before .before .before .before .before .before .before .before .before .before .before .before .before .before .good .0, tt)) (c .before .before .before .before .before .before .before .before .before .before .before .before .before .before .before .before .before .before .before .sound .result) (c .before .before .before .before .before .before .before .before .before .before .before .before .before .before .before .before .before .before .before .sound .ensures) (c .before .before .before .before .before .before .before .before .before .before .before .before .before .before .before .before .before .before .if1 .left) (c .before .before .before .before .before .before .before .before .before .before .before .before .before .before .before .before .before .before .before .before .args .id) (c .before .before .before .before .before .before .target-table .result) (c .before .before .before .before .before .before .target-table .ensures) (c .before .before .before .before .before .before .before .before .before .before .before .before .before .before .if3 .left) (c .before .before .before .before .before .before .before .before .before .before .before .if5 .left)) in omega arith
+element-copy-out-b c =
+    let s = c .before .before .before .before .before .before .before .before .before .before .before .before .before .before .before .before in
+    let k = s .args .t1 in
+    let z = sized k (s .good .0, tt) in
+    let v = c .before .before .before .before .before .before .before .before .before .before .before .before .before .before .before .sound in
+    let t = c .before .before .before .before .before .before .before .before .before .before .before .before .before .before .if1 .left in
+    let q = done-passed (beginNodeTests (getD (k .nodes) (s .args .id) blankNode)) _ (c .before .before .before .before .before .before .before .before .before .before .before .check-begin .ensures) (c .before .before .before .before .before .before .before .before .before .enum-told .given .1) in
+    let g = c .before .before .before .before .before .before .target-table .result in
+    let b = target-held k z (v .result) (v .ensures) t (s .args .id) g (c .before .before .before .before .before .before .target-table .ensures) (q .0) (q .1 .1 .0) in
+    let m : g .count ≤ 256 = target-most k z (v .result) (v .ensures) t (s .args .id) g b in
+    omega arith
 
 live-link-requires : tie.Need-live-link-requires Inv-loop μ-loop
 live-link-requires c κs = search needs
 
-add-t50 : tie.Need-add-t50 Inv-loop μ-loop
-add-t50 c = let w : (c .before .before .before .before .before .before .before .before .before .before .before .before .before .before .before .before .before .before .before .before .before .before .args .t1) .«link_count» ≤ 512 = links-within (c .before .before .before .before .before .before .before .before .before .before .before .before .before .before .before .before .before .before .before .before .before .before .args .t1) (sized (c .before .before .before .before .before .before .before .before .before .before .before .before .before .before .before .before .before .before .before .before .before .before .args .t1) (c .before .before .before .before .before .before .before .before .before .before .before .before .before .before .before .before .before .before .before .before .before .before .good .0, tt)) (c .before .before .before .before .before .before .before .before .before .before .before .before .before .before .before .before .before .before .before .before .before .sound .result) (c .before .before .before .before .before .before .before .before .before .before .before .before .before .before .before .before .before .before .before .before .before .sound .ensures) (c .before .before .before .before .before .before .before .before .before .before .before .before .before .before .before .before .before .before .before .before .if1 .left) in omega arith
+add-t41 : tie.Need-add-t41 Inv-loop μ-loop
+add-t41 c =
+    let s = c .before .before .before .before .before .before .before .before .before .before .before .before .before .before .before .before .before .before in
+    let k = s .args .t1 in
+    let z = sized k (s .good .0, tt) in
+    let v = c .before .before .before .before .before .before .before .before .before .before .before .before .before .before .before .before .before .sound in
+    let t = c .before .before .before .before .before .before .before .before .before .before .before .before .before .before .before .before .if1 .left in
+    let w : k .«link_count» ≤ 512 = links-within k z (v .result) (v .ensures) t in
+    omega arith
 
-mul-t55 : tie.Need-mul-t55 Inv-loop μ-loop
-mul-t55 c = search needs
+mul-t46 : tie.Need-mul-t46 Inv-loop μ-loop
+mul-t46 c = search needs
 
 element-set-from-self-2 : tie.Need-element-set-from-self-2 Inv-loop μ-loop
-element-set-from-self-2 c = let w : (c .before .before .before .before .before .before .before .before .before .before .before .before .before .before .before .before .before .before .before .before .before .before .args .t1) .«link_count» ≤ 512 = links-within (c .before .before .before .before .before .before .before .before .before .before .before .before .before .before .before .before .before .before .before .before .before .before .args .t1) (sized (c .before .before .before .before .before .before .before .before .before .before .before .before .before .before .before .before .before .before .before .before .before .before .args .t1) (c .before .before .before .before .before .before .before .before .before .before .before .before .before .before .before .before .before .before .before .before .before .before .good .0, tt)) (c .before .before .before .before .before .before .before .before .before .before .before .before .before .before .before .before .before .before .before .before .before .sound .result) (c .before .before .before .before .before .before .before .before .before .before .before .before .before .before .before .before .before .before .before .before .before .sound .ensures) (c .before .before .before .before .before .before .before .before .before .before .before .before .before .before .before .before .before .before .before .before .if1 .left) in omega arith
+element-set-from-self-2 c =
+    let s = c .before .before .before .before .before .before .before .before .before .before .before .before .before .before .before .before .before .before in
+    let k = s .args .t1 in
+    let z = sized k (s .good .0, tt) in
+    let v = c .before .before .before .before .before .before .before .before .before .before .before .before .before .before .before .before .before .sound in
+    let t = c .before .before .before .before .before .before .before .before .before .before .before .before .before .before .before .before .if1 .left in
+    let w : k .«link_count» ≤ 512 = links-within k z (v .result) (v .ensures) t in
+    omega arith
 
 add-i : tie.Need-add-i Inv-loop μ-loop
 add-i c = omega arith
@@ -112,26 +186,46 @@ loop-less c = omega arith
 
 loop-again : tie.Need-loop-again Inv-loop μ-loop
 loop-again c =
+    let s = c .before .before .before .before .before .before .before .before .before .before .before .before .before .before .before .before .before .before in
+    let k = s .args .t1 in
+    let z = sized k (s .good .0, tt) in
+    let v = c .before .before .before .before .before .before .before .before .before .before .before .before .before .before .before .before .before .sound in
+    let t = c .before .before .before .before .before .before .before .before .before .before .before .before .before .before .before .before .if1 .left in
+    let q = done-passed (beginNodeTests (getD (k .nodes) (s .args .id) blankNode)) _ (c .before .before .before .before .before .before .before .before .before .before .before .before .before .check-begin .ensures) (c .before .before .before .before .before .before .before .before .before .before .before .enum-told .given .1) in
+    let g = c .before .before .before .before .before .before .before .before .target-table .result in
+    let b = target-held k z (v .result) (v .ensures) t (s .args .id) g (c .before .before .before .before .before .before .before .before .target-table .ensures) (q .0) (q .1 .1 .0) in
     let j = c .before .before .before .loop in
-    let k = (c .before .before .before .before .before .before .before .before .before .before .before .before .before .before .before .before .before .before .before .before .before .before .args .t1) in
-    let z = sized k (c .before .before .before .before .before .before .before .before .before .before .before .before .before .before .before .before .before .before .before .before .before .before .good .0, tt) in
-    let r = c .before .before .before .before .before .before .before .before .target-table .result in
-    let w : k .«link_count» ≤ 512 = links-within (c .before .before .before .before .before .before .before .before .before .before .before .before .before .before .before .before .before .before .before .before .before .before .args .t1) (sized (c .before .before .before .before .before .before .before .before .before .before .before .before .before .before .before .before .before .before .before .before .before .before .args .t1) (c .before .before .before .before .before .before .before .before .before .before .before .before .before .before .before .before .before .before .before .before .before .before .good .0, tt)) (c .before .before .before .before .before .before .before .before .before .before .before .before .before .before .before .before .before .before .before .before .before .sound .result) (c .before .before .before .before .before .before .before .before .before .before .before .before .before .before .before .before .before .before .before .before .before .sound .ensures) (c .before .before .before .before .before .before .before .before .before .before .before .before .before .before .before .before .before .before .before .before .if1 .left) in
-    let m : r .count ≤ 256 = target-most (c .before .before .before .before .before .before .before .before .before .before .before .before .before .before .before .before .before .before .before .before .before .before .args .t1) (sized (c .before .before .before .before .before .before .before .before .before .before .before .before .before .before .before .before .before .before .before .before .before .before .args .t1) (c .before .before .before .before .before .before .before .before .before .before .before .before .before .before .before .before .before .before .before .before .before .before .good .0, tt)) (c .before .before .before .before .before .before .before .before .before .before .before .before .before .before .before .before .before .before .before .before .before .sound .result) (c .before .before .before .before .before .before .before .before .before .before .before .before .before .before .before .before .before .before .before .before .before .sound .ensures) (c .before .before .before .before .before .before .before .before .before .before .before .before .before .before .before .before .before .before .before .before .if1 .left) (c .before .before .before .before .before .before .before .before .before .before .before .before .before .before .before .before .before .before .before .before .before .before .args .id) (c .before .before .before .before .before .before .before .before .target-table .result) (target-held (c .before .before .before .before .before .before .before .before .before .before .before .before .before .before .before .before .before .before .before .before .before .before .args .t1) (sized (c .before .before .before .before .before .before .before .before .before .before .before .before .before .before .before .before .before .before .before .before .before .before .args .t1) (c .before .before .before .before .before .before .before .before .before .before .before .before .before .before .before .before .before .before .before .before .before .before .good .0, tt)) (c .before .before .before .before .before .before .before .before .before .before .before .before .before .before .before .before .before .before .before .before .before .sound .result) (c .before .before .before .before .before .before .before .before .before .before .before .before .before .before .before .before .before .before .before .before .before .sound .ensures) (c .before .before .before .before .before .before .before .before .before .before .before .before .before .before .before .before .before .before .before .before .if1 .left) (c .before .before .before .before .before .before .before .before .before .before .before .before .before .before .before .before .before .before .before .before .before .before .args .id) (c .before .before .before .before .before .before .before .before .target-table .result) (c .before .before .before .before .before .before .before .before .target-table .ensures) (c .before .before .before .before .before .before .before .before .before .before .before .before .before .before .before .before .if3 .left) (c .before .before .before .before .before .before .before .before .before .before .before .before .before .if5 .left)) in
-    let full : length (r .bindings) ≡ 256 = target-full (c .before .before .before .before .before .before .before .before .before .before .before .before .before .before .before .before .before .before .before .before .before .before .args .t1) (sized (c .before .before .before .before .before .before .before .before .before .before .before .before .before .before .before .before .before .before .before .before .before .before .args .t1) (c .before .before .before .before .before .before .before .before .before .before .before .before .before .before .before .before .before .before .before .before .before .before .good .0, tt)) (c .before .before .before .before .before .before .before .before .before .before .before .before .before .before .before .before .before .before .before .before .before .sound .result) (c .before .before .before .before .before .before .before .before .before .before .before .before .before .before .before .before .before .before .before .before .before .sound .ensures) (c .before .before .before .before .before .before .before .before .before .before .before .before .before .before .before .before .before .before .before .before .if1 .left) (c .before .before .before .before .before .before .before .before .before .before .before .before .before .before .before .before .before .before .before .before .before .before .args .id) (c .before .before .before .before .before .before .before .before .target-table .result) (target-held (c .before .before .before .before .before .before .before .before .before .before .before .before .before .before .before .before .before .before .before .before .before .before .args .t1) (sized (c .before .before .before .before .before .before .before .before .before .before .before .before .before .before .before .before .before .before .before .before .before .before .args .t1) (c .before .before .before .before .before .before .before .before .before .before .before .before .before .before .before .before .before .before .before .before .before .before .good .0, tt)) (c .before .before .before .before .before .before .before .before .before .before .before .before .before .before .before .before .before .before .before .before .before .sound .result) (c .before .before .before .before .before .before .before .before .before .before .before .before .before .before .before .before .before .before .before .before .before .sound .ensures) (c .before .before .before .before .before .before .before .before .before .before .before .before .before .before .before .before .before .before .before .before .if1 .left) (c .before .before .before .before .before .before .before .before .before .before .before .before .before .before .before .before .before .before .before .before .before .before .args .id) (c .before .before .before .before .before .before .before .before .target-table .result) (c .before .before .before .before .before .before .before .before .target-table .ensures) (c .before .before .before .before .before .before .before .before .before .before .before .before .before .before .before .before .if3 .left) (c .before .before .before .before .before .before .before .before .before .before .before .before .before .if5 .left)) in
-    let next = linked-next (nodesPut k (set (k .nodes) (c .before .before .before .before .before .before .before .before .before .before .before .before .before .before .before .before .before .before .before .before .before .before .args .id) (c .before .before .before .before .started-node .result))) (j .self) (c .before .before .before .before .before .before .before .before .before .before .before .before .before .before .before .before .before .before .before .before .before .before .args .id) (k .«link_count») (j .i) (r .bindings) (z .links) (omega arith) (omega arith) (j .inv .1) in
+    let w : k .«link_count» ≤ 512 = links-within k z (v .result) (v .ensures) t in
+    let m : g .count ≤ 256 = target-most k z (v .result) (v .ensures) t (s .args .id) g b in
+    let full : length (g .bindings) ≡ 256 = target-full k z (v .result) (v .ensures) t (s .args .id) g b in
+    let next = linked-next (nodesPut k (set (k .nodes) (s .args .id) (c .before .before .before .before .started-node .result))) (j .self) (s .args .id) (k .«link_count») (j .i) (g .bindings) (z .links) (omega arith) (omega arith) (j .inv .1) in
     (omega arith, rw (c .live-link .ensures) next)
 
 add-self : tie.Need-add-self Inv-loop μ-loop
-add-self c = let w : (c .before .before .before .before .before .before .before .before .before .before .before .before .before .before .before .before .before .before .before .before .args .t1) .«link_count» ≤ 512 = links-within (c .before .before .before .before .before .before .before .before .before .before .before .before .before .before .before .before .before .before .before .before .args .t1) (sized (c .before .before .before .before .before .before .before .before .before .before .before .before .before .before .before .before .before .before .before .before .args .t1) (c .before .before .before .before .before .before .before .before .before .before .before .before .before .before .before .before .before .before .before .before .good .0, tt)) (c .before .before .before .before .before .before .before .before .before .before .before .before .before .before .before .before .before .before .before .sound .result) (c .before .before .before .before .before .before .before .before .before .before .before .before .before .before .before .before .before .before .before .sound .ensures) (c .before .before .before .before .before .before .before .before .before .before .before .before .before .before .before .before .before .before .if1 .left) in omega arith
+add-self c =
+    let s = c .before .before .before .before .before .before .before .before .before .before .before .before .before .before .before .before in
+    let k = s .args .t1 in
+    let z = sized k (s .good .0, tt) in
+    let v = c .before .before .before .before .before .before .before .before .before .before .before .before .before .before .before .sound in
+    let t = c .before .before .before .before .before .before .before .before .before .before .before .before .before .before .if1 .left in
+    let w : k .«link_count» ≤ 512 = links-within k z (v .result) (v .ensures) t in
+    omega arith
 
-returns-9 : tie.Need-returns-9 Inv-loop μ-loop
-returns-9 c =
+returns-6 : tie.Need-returns-6 Inv-loop μ-loop
+returns-6 c =
+    let s = c .before .before .before .before .before .before .before .before .before .before .before .before .before .before .before .before in
+    let k = s .args .t1 in
+    let z = sized k (s .good .0, tt) in
+    let v = c .before .before .before .before .before .before .before .before .before .before .before .before .before .before .before .sound in
+    let t = c .before .before .before .before .before .before .before .before .before .before .before .before .before .before .if1 .left in
+    let p = node-passed k z (v .result) (v .ensures) t (s .args .id) beginNodeTests _ (c .before .before .before .before .before .before .before .before .before .before .before .check-begin .ensures) (c .before .before .before .before .before .before .before .before .before .enum-told .given .1) in
+    let q = done-passed (beginNodeTests (getD (k .nodes) (s .args .id) blankNode)) _ (c .before .before .before .before .before .before .before .before .before .before .before .check-begin .ensures) (c .before .before .before .before .before .before .before .before .before .enum-told .given .1) in
+    let g = c .before .before .before .before .before .before .target-table .result in
+    let b = target-held k z (v .result) (v .ensures) t (s .args .id) g (c .before .before .before .before .before .before .target-table .ensures) (q .0) (q .1 .1 .0) in
     let j = c .before .loop in
-    let r = c .before .before .before .before .before .before .target-table .result in
-    let i : j .i ≡ r .count = omega arith in
-    let laid = begun-laid (c .before .before .before .before .before .before .before .before .before .before .before .before .before .before .before .before .before .before .before .before .args .t1) (sized (c .before .before .before .before .before .before .before .before .before .before .before .before .before .before .before .before .before .before .before .before .args .t1) (c .before .before .before .before .before .before .before .before .before .before .before .before .before .before .before .before .before .before .before .before .good .0, tt)) (c .before .before .before .before .before .before .before .before .before .before .before .before .before .before .before .before .before .before .before .sound .result) (c .before .before .before .before .before .before .before .before .before .before .before .before .before .before .before .before .before .before .before .sound .ensures) (c .before .before .before .before .before .before .before .before .before .before .before .before .before .before .before .before .before .before .if1 .left) (c .before .before .before .before .before .before .before .before .before .before .before .before .before .before .before .before .before .before .before .before .args .id) (c .before .before .before .before .before .before .target-table .result) (target-held (c .before .before .before .before .before .before .before .before .before .before .before .before .before .before .before .before .before .before .before .before .args .t1) (sized (c .before .before .before .before .before .before .before .before .before .before .before .before .before .before .before .before .before .before .before .before .args .t1) (c .before .before .before .before .before .before .before .before .before .before .before .before .before .before .before .before .before .before .before .before .good .0, tt)) (c .before .before .before .before .before .before .before .before .before .before .before .before .before .before .before .before .before .before .before .sound .result) (c .before .before .before .before .before .before .before .before .before .before .before .before .before .before .before .before .before .before .before .sound .ensures) (c .before .before .before .before .before .before .before .before .before .before .before .before .before .before .before .before .before .before .if1 .left) (c .before .before .before .before .before .before .before .before .before .before .before .before .before .before .before .before .before .before .before .before .args .id) (c .before .before .before .before .before .before .target-table .result) (c .before .before .before .before .before .before .target-table .ensures) (c .before .before .before .before .before .before .before .before .before .before .before .before .before .before .if3 .left) (c .before .before .before .before .before .before .before .before .before .before .before .if5 .left)) (c .before .before .started-node .result) (c .before .before .started-node .ensures ∙ rw (add-one ((getD (c .before .before .before .before .before .before .before .before .before .before .before .before .before .before .before .before .before .before .before .before .args .t1 .nodes) (c .before .before .before .before .before .before .before .before .before .before .before .before .before .before .before .before .before .before .before .before .args .id) blankNode) .generation))) (c .before .before .before .before .before .before .before .before .before .before .before .before .before .before .if3 .left) (j .self) (j .i) i (j .inv .1) in
-    ap (λ (x : Kernel). record { kernel = x; answer = Answer.Done }) laid ∙ sym (ap outcome (accepted-by (c .before .before .before .before .before .before .before .before .before .before .before .before .before .before .before .before .before .before .before .before .args .t1) (sized (c .before .before .before .before .before .before .before .before .before .before .before .before .before .before .before .before .before .before .before .before .args .t1) (c .before .before .before .before .before .before .before .before .before .before .before .before .before .before .before .before .before .before .before .before .good .0, tt)) (c .before .before .before .before .before .before .before .before .before .before .before .before .before .before .before .before .before .before .before .sound .result) (c .before .before .before .before .before .before .before .before .before .before .before .before .before .before .before .before .before .before .before .sound .ensures) (c .before .before .before .before .before .before .before .before .before .before .before .before .before .before .before .before .before .before .if1 .left) (Command.begin (c .before .before .before .before .before .before .before .before .before .before .before .before .before .before .before .before .before .before .before .before .args .id)) (node-has (c .before .before .before .before .before .before .before .before .before .before .before .before .before .before .before .before .before .before .before .before .args .t1) (sized (c .before .before .before .before .before .before .before .before .before .before .before .before .before .before .before .before .before .before .before .before .args .t1) (c .before .before .before .before .before .before .before .before .before .before .before .before .before .before .before .before .before .before .before .before .good .0, tt)) (c .before .before .before .before .before .before .before .before .before .before .before .before .before .before .before .before .before .before .before .sound .result) (c .before .before .before .before .before .before .before .before .before .before .before .before .before .before .before .before .before .before .before .sound .ensures) (c .before .before .before .before .before .before .before .before .before .before .before .before .before .before .before .before .before .before .if1 .left) (λ n. not (n .present)) false (c .before .before .before .before .before .before .before .before .before .before .before .before .before .before .before .before .before .before .before .before .args .id) (c .before .before .before .before .before .before .before .before .before .before .before .before .before .before .if3 .left), (node-has (c .before .before .before .before .before .before .before .before .before .before .before .before .before .before .before .before .before .before .before .before .args .t1) (sized (c .before .before .before .before .before .before .before .before .before .before .before .before .before .before .before .before .before .before .before .before .args .t1) (c .before .before .before .before .before .before .before .before .before .before .before .before .before .before .before .before .before .before .before .before .good .0, tt)) (c .before .before .before .before .before .before .before .before .before .before .before .before .before .before .before .before .before .before .before .sound .result) (c .before .before .before .before .before .before .before .before .before .before .before .before .before .before .before .before .before .before .before .sound .ensures) (c .before .before .before .before .before .before .before .before .before .before .before .before .before .before .before .before .before .before .if1 .left) (λ n. not (isInactive (n .phase))) false (c .before .before .before .before .before .before .before .before .before .before .before .before .before .before .before .before .before .before .before .before .args .id) (ap not (sym (c .before .before .before .before .before .before .before .before .before .before .before .before .before .is-inactive .ensures)) ∙ c .before .before .before .before .before .before .before .before .before .before .before .before .if4 .left), (node-has (c .before .before .before .before .before .before .before .before .before .before .before .before .before .before .before .before .before .before .before .before .args .t1) (sized (c .before .before .before .before .before .before .before .before .before .before .before .before .before .before .before .before .before .before .before .before .args .t1) (c .before .before .before .before .before .before .before .before .before .before .before .before .before .before .before .before .before .before .before .before .good .0, tt)) (c .before .before .before .before .before .before .before .before .before .before .before .before .before .before .before .before .before .before .before .sound .result) (c .before .before .before .before .before .before .before .before .before .before .before .before .before .before .before .before .before .before .before .sound .ensures) (c .before .before .before .before .before .before .before .before .before .before .before .before .before .before .before .before .before .before .if1 .left) (λ n. n .retired) false (c .before .before .before .before .before .before .before .before .before .before .before .before .before .before .before .before .before .before .before .before .args .id) (c .before .before .before .before .before .before .before .before .before .before .before .if5 .left), (node-has (c .before .before .before .before .before .before .before .before .before .before .before .before .before .before .before .before .before .before .before .before .args .t1) (sized (c .before .before .before .before .before .before .before .before .before .before .before .before .before .before .before .before .before .before .before .before .args .t1) (c .before .before .before .before .before .before .before .before .before .before .before .before .before .before .before .before .before .before .before .before .good .0, tt)) (c .before .before .before .before .before .before .before .before .before .before .before .before .before .before .before .before .before .before .before .sound .result) (c .before .before .before .before .before .before .before .before .before .before .before .before .before .before .before .before .before .before .before .sound .ensures) (c .before .before .before .before .before .before .before .before .before .before .before .before .before .before .before .before .before .before .if1 .left) (λ n. eqb (n .generation) lastGeneration) false (c .before .before .before .before .before .before .before .before .before .before .before .before .before .before .before .before .before .before .before .before .args .id) (ne-eqb _ _ (c .before .before .before .before .before .before .before .before .before .if6 .left)), ((target-missing (c .before .before .before .before .before .before .before .before .before .before .before .before .before .before .before .before .before .before .before .before .args .t1) (sized (c .before .before .before .before .before .before .before .before .before .before .before .before .before .before .before .before .before .before .before .before .args .t1) (c .before .before .before .before .before .before .before .before .before .before .before .before .before .before .before .before .before .before .before .before .good .0, tt)) (c .before .before .before .before .before .before .before .before .before .before .before .before .before .before .before .before .before .before .before .sound .result) (c .before .before .before .before .before .before .before .before .before .before .before .before .before .before .before .before .before .before .before .sound .ensures) (c .before .before .before .before .before .before .before .before .before .before .before .before .before .before .before .before .before .before .if1 .left) (c .before .before .before .before .before .before .before .before .before .before .before .before .before .before .before .before .before .before .before .before .args .id) (c .before .before .before .before .before .before .target-table .result) (target-held (c .before .before .before .before .before .before .before .before .before .before .before .before .before .before .before .before .before .before .before .before .args .t1) (sized (c .before .before .before .before .before .before .before .before .before .before .before .before .before .before .before .before .before .before .before .before .args .t1) (c .before .before .before .before .before .before .before .before .before .before .before .before .before .before .before .before .before .before .before .before .good .0, tt)) (c .before .before .before .before .before .before .before .before .before .before .before .before .before .before .before .before .before .before .before .sound .result) (c .before .before .before .before .before .before .before .before .before .before .before .before .before .before .before .before .before .before .before .sound .ensures) (c .before .before .before .before .before .before .before .before .before .before .before .before .before .before .before .before .before .before .if1 .left) (c .before .before .before .before .before .before .before .before .before .before .before .before .before .before .before .before .before .before .before .before .args .id) (c .before .before .before .before .before .before .target-table .result) (c .before .before .before .before .before .before .target-table .ensures) (c .before .before .before .before .before .before .before .before .before .before .before .before .before .before .if3 .left) (c .before .before .before .before .before .before .before .before .before .before .before .if5 .left)) ∙ c .before .before .before .before .before .if7 .left), (space-some (c .before .before .before .before .before .before .before .before .before .before .before .before .before .before .before .before .before .before .before .before .args .t1) (sized (c .before .before .before .before .before .before .before .before .before .before .before .before .before .before .before .before .before .before .before .before .args .t1) (c .before .before .before .before .before .before .before .before .before .before .before .before .before .before .before .before .before .before .before .before .good .0, tt)) (c .before .before .before .before .before .before .before .before .before .before .before .before .before .before .before .before .before .before .before .sound .result) (c .before .before .before .before .before .before .before .before .before .before .before .before .before .before .before .before .before .before .before .sound .ensures) (c .before .before .before .before .before .before .before .before .before .before .before .before .before .before .before .before .before .before .if1 .left) (c .before .before .before .before .before .before .before .before .before .before .before .before .before .before .before .before .before .before .before .before .args .id) (c .before .before .before .before .before .before .target-table .result) (target-held (c .before .before .before .before .before .before .before .before .before .before .before .before .before .before .before .before .before .before .before .before .args .t1) (sized (c .before .before .before .before .before .before .before .before .before .before .before .before .before .before .before .before .before .before .before .before .args .t1) (c .before .before .before .before .before .before .before .before .before .before .before .before .before .before .before .before .before .before .before .before .good .0, tt)) (c .before .before .before .before .before .before .before .before .before .before .before .before .before .before .before .before .before .before .before .sound .result) (c .before .before .before .before .before .before .before .before .before .before .before .before .before .before .before .before .before .before .before .sound .ensures) (c .before .before .before .before .before .before .before .before .before .before .before .before .before .before .before .before .before .before .if1 .left) (c .before .before .before .before .before .before .before .before .before .before .before .before .before .before .before .before .before .before .before .before .args .id) (c .before .before .before .before .before .before .target-table .result) (c .before .before .before .before .before .before .target-table .ensures) (c .before .before .before .before .before .before .before .before .before .before .before .before .before .before .if3 .left) (c .before .before .before .before .before .before .before .before .before .before .before .if5 .left)) (c .before .before .before .before .if8 .left), tt))))))))
+    let i : j .i ≡ g .count = omega arith in
+    let laid = begun-laid k z (v .result) (v .ensures) t (s .args .id) g b (c .before .before .started-node .result) (c .before .before .started-node .ensures ∙ rw (add-one ((getD (k .nodes) (s .args .id) blankNode) .generation))) (q .0) (j .self) (j .i) i (j .inv .1) in
+    ap (λ (x : Kernel). record { kernel = x; answer = Answer.Done }) laid ∙ sym (ap outcome (accepted-by k z (v .result) (v .ensures) t (Command.begin (s .args .id)) (p .0, (p .1 .0, (p .1 .1 .0, (p .1 .1 .1 .0, (target-missing k z (v .result) (v .ensures) t (s .args .id) g b ∙ c .before .before .before .before .before .if3 .left, (space-some k z (v .result) (v .ensures) t (s .args .id) g b (c .before .before .before .before .if4 .left), tt))))))))
 
 pub begin-spec : {M : Type 1} → statement M
 begin-spec =
@@ -144,28 +238,27 @@ begin-spec =
     returns-2
     mul-node
     element-copy-out-node
+    check-begin-requires
+    enum-known-checked
     returns-3
-    is-inactive-requires
-    returns-4
-    returns-5
-    returns-6
+    enum-told
     target-table-requires
-    returns-7
-    sub-if8
-    returns-8
+    returns-4
+    sub-if4
+    returns-5
     add-started-node
     started-node-requires
-    mul-t23
+    mul-t24
     element-set-from-self
     loop-holds
     mul-b
     element-copy-out-b
     live-link-requires
-    add-t50
-    mul-t55
+    add-t41
+    mul-t46
     element-set-from-self-2
     add-i
     loop-less
     loop-again
     add-self
-    returns-9)
+    returns-6)

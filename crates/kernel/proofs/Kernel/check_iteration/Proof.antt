@@ -1,12 +1,17 @@
 -- `kernel::Kernel::check_iteration` meets its contract.
-use mathlib.Core.Path.{ap, sym}
+use mathlib.Core.Path.{_∙_, ap, sym}
+use lib.ListN.{getD}
 use borrow.Author.Needs.{needs}
 use Rattle.model.specs.declared.Error.{Error}
-use Rattle.kernel.proofs.Laws.Iteration.{check-done, check-refused, iteration-absent, iteration-changed, iteration-passed, iteration-past, iteration-retired, iteration-state}
+use Rattle.kernel.proofs.Laws.Commanded.{node-passed, node-past, node-refused, past-unknown}
+use Rattle.kernel.proofs.Laws.Iteration.{check-done, check-refused}
 use Rattle.kernel.proofs.Laws.Observed.{ask-unsound}
 use Rattle.kernel.proofs.Laws.Sized.{sized}
+use Rattle.kernel.proofs.Laws.Target.{target-gone}
+use Rattle.model.proofs.Laws.Refusals.{done-passed, stop}
 use Rattle.model.specs.Answers.{answer}
-use Rattle.model.specs.Lifecycle.{checkIteration}
+use Rattle.model.specs.Lifecycle.{checkIteration, loadingTests}
+use Rattle.model.specs.Records.{blankNode}
 use Rattle.model.specs.Refusals.{Reply}
 use Rattle.kernel.proofs.Kernel.check_iteration.Statement.{statement}
 use Rattle.kernel.proofs.Kernel.check_iteration.Tie as tie
@@ -15,10 +20,18 @@ sound-requires : tie.Need-sound-requires
 sound-requires c κs = search needs
 
 returns : tie.Need-returns
-returns c = sym (ap answer (ask-unsound (c .before .before .args .t1) (c .before .sound .result) (Reply.refused Error.Damaged) (λ T. checkIteration T (c .before .before .args .id)) (c .before .sound .ensures) (c .if1 .taken)))
+returns c =
+    let a = c .before .before .args in
+    sym (ap answer (ask-unsound (a .t1) (c .before .sound .result) (Reply.refused Error.Damaged) (λ T. checkIteration T (a .id)) (c .before .sound .ensures) (c .if1 .taken)))
 
 returns-2 : tie.Need-returns-2
-returns-2 c = sym (ap answer (check-refused (c .before .before .before .args .t1) (sized (c .before .before .before .args .t1) (c .before .before .before .good .0, tt)) (c .before .before .sound .result) (c .before .before .sound .ensures) (c .before .if1 .left) (c .before .before .before .args .id) Error.Unknown (iteration-past (c .before .before .before .args .t1) (sized (c .before .before .before .args .t1) (c .before .before .before .good .0, tt)) (c .before .before .sound .result) (c .before .before .sound .ensures) (c .before .if1 .left) (c .before .before .before .args .id) (c .if2 .taken))))
+returns-2 c =
+    let s = c .before .before .before in
+    let k = s .args .t1 in
+    let z = sized k (s .good .0, tt) in
+    let v = c .before .before .sound in
+    let t = c .before .if1 .left in
+    sym (ap answer (check-refused k z (v .result) (v .ensures) t (s .args .id) Error.Unknown (past-unknown k z (v .result) (v .ensures) t (s .args .id) _ (c .if2 .taken))))
 
 mul-node : tie.Need-mul-node
 mul-node c = search needs
@@ -26,26 +39,47 @@ mul-node c = search needs
 element-copy-out-node : tie.Need-element-copy-out-node
 element-copy-out-node c = search needs
 
+check-loading-requires : tie.Need-check-loading-requires
+check-loading-requires c κs = search needs
+
+enum-known-checked : tie.Need-enum-known-checked
+enum-known-checked c = search needs
+
 returns-3 : tie.Need-returns-3
-returns-3 c = sym (ap answer (check-refused (c .before .before .before .before .before .before .args .t1) (sized (c .before .before .before .before .before .before .args .t1) (c .before .before .before .before .before .before .good .0, tt)) (c .before .before .before .before .before .sound .result) (c .before .before .before .before .before .sound .ensures) (c .before .before .before .before .if1 .left) (c .before .before .before .before .before .before .args .id) Error.Unknown (iteration-absent (c .before .before .before .before .before .before .args .t1) (sized (c .before .before .before .before .before .before .args .t1) (c .before .before .before .before .before .before .good .0, tt)) (c .before .before .before .before .before .sound .result) (c .before .before .before .before .before .sound .ensures) (c .before .before .before .before .if1 .left) (c .before .before .before .before .before .before .args .id) (c .if3 .taken))))
+returns-3 c =
+    let s = c .before .before .before .before .before .before .before .before in
+    let k = s .args .t1 in
+    let z = sized k (s .good .0, tt) in
+    let v = c .before .before .before .before .before .before .before .sound in
+    let t = c .before .before .before .before .before .before .if1 .left in
+    sym (ap answer (check-refused k z (v .result) (v .ensures) t (s .args .id) _ (node-refused k z (v .result) (v .ensures) t (s .args .id) loadingTests _ _ _ (c .before .before .before .check-loading .ensures) (c .before .checked .given .1))))
 
-is-loading-requires : tie.Need-is-loading-requires
-is-loading-requires c κs = search needs
-
-returns-4 : tie.Need-returns-4
-returns-4 c = sym (ap answer (check-refused (c .before .before .before .before .before .before .before .before .args .t1) (sized (c .before .before .before .before .before .before .before .before .args .t1) (c .before .before .before .before .before .before .before .before .good .0, tt)) (c .before .before .before .before .before .before .before .sound .result) (c .before .before .before .before .before .before .before .sound .ensures) (c .before .before .before .before .before .before .if1 .left) (c .before .before .before .before .before .before .before .before .args .id) Error.InvalidState (iteration-state (c .before .before .before .before .before .before .before .before .args .t1) (sized (c .before .before .before .before .before .before .before .before .args .t1) (c .before .before .before .before .before .before .before .before .good .0, tt)) (c .before .before .before .before .before .before .before .sound .result) (c .before .before .before .before .before .before .before .sound .ensures) (c .before .before .before .before .before .before .if1 .left) (c .before .before .before .before .before .before .before .before .args .id) (c .before .before .if3 .left) (c .before .is-loading .result) (c .before .is-loading .ensures) (c .if4 .taken))))
-
-returns-5 : tie.Need-returns-5
-returns-5 c = sym (ap answer (check-refused (c .before .before .before .before .before .before .before .before .before .args .t1) (sized (c .before .before .before .before .before .before .before .before .before .args .t1) (c .before .before .before .before .before .before .before .before .before .good .0, tt)) (c .before .before .before .before .before .before .before .before .sound .result) (c .before .before .before .before .before .before .before .before .sound .ensures) (c .before .before .before .before .before .before .before .if1 .left) (c .before .before .before .before .before .before .before .before .before .args .id) Error.Changed (iteration-retired (c .before .before .before .before .before .before .before .before .before .args .t1) (sized (c .before .before .before .before .before .before .before .before .before .args .t1) (c .before .before .before .before .before .before .before .before .before .good .0, tt)) (c .before .before .before .before .before .before .before .before .sound .result) (c .before .before .before .before .before .before .before .before .sound .ensures) (c .before .before .before .before .before .before .before .if1 .left) (c .before .before .before .before .before .before .before .before .before .args .id) (c .before .before .before .if3 .left) (c .before .before .is-loading .result) (c .before .before .is-loading .ensures) (c .before .if4 .left) (c .if5 .taken))))
+enum-told : tie.Need-enum-told
+enum-told c = search needs
 
 target-table-requires : tie.Need-target-table-requires
 target-table-requires c κs = search needs
 
-returns-6 : tie.Need-returns-6
-returns-6 c = sym (ap answer (check-refused (c .before .before .before .before .before .before .before .before .before .before .before .before .before .before .args .t1) (sized (c .before .before .before .before .before .before .before .before .before .before .before .before .before .before .args .t1) (c .before .before .before .before .before .before .before .before .before .before .before .before .before .before .good .0, tt)) (c .before .before .before .before .before .before .before .before .before .before .before .before .before .sound .result) (c .before .before .before .before .before .before .before .before .before .before .before .before .before .sound .ensures) (c .before .before .before .before .before .before .before .before .before .before .before .before .if1 .left) (c .before .before .before .before .before .before .before .before .before .before .before .before .before .before .args .id) Error.Changed (iteration-changed (c .before .before .before .before .before .before .before .before .before .before .before .before .before .before .args .t1) (sized (c .before .before .before .before .before .before .before .before .before .before .before .before .before .before .args .t1) (c .before .before .before .before .before .before .before .before .before .before .before .before .before .before .good .0, tt)) (c .before .before .before .before .before .before .before .before .before .before .before .before .before .sound .result) (c .before .before .before .before .before .before .before .before .before .before .before .before .before .sound .ensures) (c .before .before .before .before .before .before .before .before .before .before .before .before .if1 .left) (c .before .before .before .before .before .before .before .before .before .before .before .before .before .before .args .id) (c .before .before .before .before .before .before .before .before .if3 .left) (c .before .before .before .before .before .before .before .is-loading .result) (c .before .before .before .before .before .before .before .is-loading .ensures) (c .before .before .before .before .before .before .if4 .left) (c .before .before .before .before .before .if5 .left) (c .before .before .target-table .result) (c .before .before .target-table .ensures) (c .if6 .taken))))
+returns-4 : tie.Need-returns-4
+returns-4 c =
+    let s = c .before .before .before .before .before .before .before .before .before .before .before .before .before in
+    let k = s .args .t1 in
+    let z = sized k (s .good .0, tt) in
+    let v = c .before .before .before .before .before .before .before .before .before .before .before .before .sound in
+    let t = c .before .before .before .before .before .before .before .before .before .before .before .if1 .left in
+    let q = done-passed (loadingTests (getD (k .nodes) (s .args .id) blankNode)) _ (c .before .before .before .before .before .before .before .before .check-loading .ensures) (c .before .before .before .before .before .before .enum-told .given .1) in
+    sym (ap answer (check-refused k z (v .result) (v .ensures) t (s .args .id) Error.Changed (node-past k z (v .result) (v .ensures) t (s .args .id) loadingTests _ _ (c .before .before .before .before .before .before .before .before .check-loading .ensures) (c .before .before .before .before .before .before .enum-told .given .1) ∙ stop _ _ _ (target-gone k z (v .result) (v .ensures) t (s .args .id) (c .before .before .before .target-table .result) (c .before .before .before .target-table .ensures) (q .0) ∙ c .if3 .taken))))
 
-returns-7 : tie.Need-returns-7
-returns-7 c = sym (ap answer (check-done (c .before .before .before .before .before .before .before .before .before .before .before .before .before .before .args .t1) (sized (c .before .before .before .before .before .before .before .before .before .before .before .before .before .before .args .t1) (c .before .before .before .before .before .before .before .before .before .before .before .before .before .before .good .0, tt)) (c .before .before .before .before .before .before .before .before .before .before .before .before .before .sound .result) (c .before .before .before .before .before .before .before .before .before .before .before .before .before .sound .ensures) (c .before .before .before .before .before .before .before .before .before .before .before .before .if1 .left) (c .before .before .before .before .before .before .before .before .before .before .before .before .before .before .args .id) (iteration-passed (c .before .before .before .before .before .before .before .before .before .before .before .before .before .before .args .t1) (sized (c .before .before .before .before .before .before .before .before .before .before .before .before .before .before .args .t1) (c .before .before .before .before .before .before .before .before .before .before .before .before .before .before .good .0, tt)) (c .before .before .before .before .before .before .before .before .before .before .before .before .before .sound .result) (c .before .before .before .before .before .before .before .before .before .before .before .before .before .sound .ensures) (c .before .before .before .before .before .before .before .before .before .before .before .before .if1 .left) (c .before .before .before .before .before .before .before .before .before .before .before .before .before .before .args .id) (c .before .before .before .before .before .before .before .before .if3 .left) (c .before .before .before .before .before .before .before .is-loading .result) (c .before .before .before .before .before .before .before .is-loading .ensures) (c .before .before .before .before .before .before .if4 .left) (c .before .before .before .before .before .if5 .left) (c .before .before .target-table .result) (c .before .before .target-table .ensures) (c .if6 .left))))
+returns-5 : tie.Need-returns-5
+returns-5 c =
+    let s = c .before .before .before .before .before .before .before .before .before .before .before .before .before in
+    let k = s .args .t1 in
+    let z = sized k (s .good .0, tt) in
+    let v = c .before .before .before .before .before .before .before .before .before .before .before .before .sound in
+    let t = c .before .before .before .before .before .before .before .before .before .before .before .if1 .left in
+    let p = node-passed k z (v .result) (v .ensures) t (s .args .id) loadingTests _ (c .before .before .before .before .before .before .before .before .check-loading .ensures) (c .before .before .before .before .before .before .enum-told .given .1) in
+    let q = done-passed (loadingTests (getD (k .nodes) (s .args .id) blankNode)) _ (c .before .before .before .before .before .before .before .before .check-loading .ensures) (c .before .before .before .before .before .before .enum-told .given .1) in
+    sym (ap answer (check-done k z (v .result) (v .ensures) t (s .args .id) (p .0, (p .1 .0, (target-gone k z (v .result) (v .ensures) t (s .args .id) (c .before .before .before .target-table .result) (c .before .before .before .target-table .ensures) (q .0) ∙ c .if3 .left, tt)))))
 
 pub check-iteration-spec : {M : Type 1} → statement M
 check-iteration-spec =
@@ -56,10 +90,10 @@ check-iteration-spec =
     returns-2
     mul-node
     element-copy-out-node
+    check-loading-requires
+    enum-known-checked
     returns-3
-    is-loading-requires
-    returns-4
-    returns-5
+    enum-told
     target-table-requires
-    returns-6
-    returns-7)
+    returns-4
+    returns-5)

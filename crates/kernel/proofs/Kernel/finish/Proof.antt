@@ -1,20 +1,23 @@
 -- `kernel::Kernel::finish` meets its contract.
-use mathlib.Core.Path.{_∙_, _≡_, ap, sym}
 use mathlib.Core.Bool.{true}
+use mathlib.Core.Path.{_∙_, _≡_, ap, sym}
+use lib.ListN.{getD}
 use borrow.Author.Needs.{needs}
-use borrow.Author.Tests.{not-false}
 use Rattle.kernel.specs.declared.Kernel.{Kernel}
 use Rattle.model.specs.declared.Answer.{Answer}
 use Rattle.model.specs.declared.Error.{Error}
 use Rattle.model.specs.declared.Phase.{Phase}
-use Rattle.kernel.proofs.Laws.Commanded.{accepted-by, damaged, node-has, node-is, node-stored, refused-by}
-use Rattle.kernel.proofs.Laws.Iteration.{iteration-absent, iteration-changed, iteration-passed, iteration-past, iteration-retired, iteration-state}
+use Rattle.kernel.proofs.Laws.Commanded.{accepted-by, damaged, node-is, node-passed, node-past, node-refused, node-stored, past-unknown, refused-by}
 use Rattle.kernel.proofs.Laws.Sized.{sized}
+use Rattle.kernel.proofs.Laws.Target.{target-gone}
 use Rattle.kernel.specs.Fields.{layoutOf}
 use Rattle.kernel.specs.Outcomes.{outcome}
+use Rattle.model.proofs.Laws.Booleans.{not-f}
+use Rattle.model.proofs.Laws.Refusals.{done-passed, stop}
 use Rattle.model.specs.Commands.{Command}
 use Rattle.model.specs.Layouts.{tablesOf}
-use Rattle.model.specs.Records.{withPhase}
+use Rattle.model.specs.Lifecycle.{loadingTests}
+use Rattle.model.specs.Records.{blankNode, withPhase}
 use Rattle.model.specs.Tables.{nodeAt, present}
 use Rattle.kernel.proofs.Kernel.finish.Statement.{statement}
 use Rattle.kernel.proofs.Kernel.finish.Tie as tie
@@ -23,10 +26,18 @@ sound-requires : tie.Need-sound-requires
 sound-requires c κs = search needs
 
 returns : tie.Need-returns
-returns c = sym (ap outcome (damaged (c .before .before .args .t1) (Command.finish (c .before .before .args .id)) (c .before .sound .result) (c .before .sound .ensures) (c .if1 .taken)))
+returns c =
+    let a = c .before .before .args in
+    sym (ap outcome (damaged (a .t1) (Command.finish (a .id)) (c .before .sound .result) (c .before .sound .ensures) (c .if1 .taken)))
 
 returns-2 : tie.Need-returns-2
-returns-2 c = sym (ap outcome (refused-by (c .before .before .before .args .t1) (sized (c .before .before .before .args .t1) (c .before .before .before .good .0, tt)) (c .before .before .sound .result) (c .before .before .sound .ensures) (c .before .if1 .left) (Command.finish (c .before .before .before .args .id)) Error.Unknown (iteration-past (c .before .before .before .args .t1) (sized (c .before .before .before .args .t1) (c .before .before .before .good .0, tt)) (c .before .before .sound .result) (c .before .before .sound .ensures) (c .before .if1 .left) (c .before .before .before .args .id) (c .if2 .taken))))
+returns-2 c =
+    let s = c .before .before .before in
+    let k = s .args .t1 in
+    let z = sized k (s .good .0, tt) in
+    let v = c .before .before .sound in
+    let t = c .before .if1 .left in
+    sym (ap outcome (refused-by k z (v .result) (v .ensures) t (Command.finish (s .args .id)) Error.Unknown (past-unknown k z (v .result) (v .ensures) t (s .args .id) _ (c .if2 .taken))))
 
 mul-node : tie.Need-mul-node
 mul-node c = search needs
@@ -34,38 +45,58 @@ mul-node c = search needs
 element-copy-out-node : tie.Need-element-copy-out-node
 element-copy-out-node c = search needs
 
+check-loading-requires : tie.Need-check-loading-requires
+check-loading-requires c κs = search needs
+
+enum-known-checked : tie.Need-enum-known-checked
+enum-known-checked c = search needs
+
 returns-3 : tie.Need-returns-3
-returns-3 c = sym (ap outcome (refused-by (c .before .before .before .before .before .before .args .t1) (sized (c .before .before .before .before .before .before .args .t1) (c .before .before .before .before .before .before .good .0, tt)) (c .before .before .before .before .before .sound .result) (c .before .before .before .before .before .sound .ensures) (c .before .before .before .before .if1 .left) (Command.finish (c .before .before .before .before .before .before .args .id)) Error.Unknown (iteration-absent (c .before .before .before .before .before .before .args .t1) (sized (c .before .before .before .before .before .before .args .t1) (c .before .before .before .before .before .before .good .0, tt)) (c .before .before .before .before .before .sound .result) (c .before .before .before .before .before .sound .ensures) (c .before .before .before .before .if1 .left) (c .before .before .before .before .before .before .args .id) (c .if3 .taken))))
+returns-3 c =
+    let s = c .before .before .before .before .before .before .before .before in
+    let k = s .args .t1 in
+    let z = sized k (s .good .0, tt) in
+    let v = c .before .before .before .before .before .before .before .sound in
+    let t = c .before .before .before .before .before .before .if1 .left in
+    sym (ap outcome (refused-by k z (v .result) (v .ensures) t (Command.finish (s .args .id)) _ (node-refused k z (v .result) (v .ensures) t (s .args .id) loadingTests _ _ _ (c .before .before .before .check-loading .ensures) (c .before .checked .given .1))))
 
-is-loading-requires : tie.Need-is-loading-requires
-is-loading-requires c κs = search needs
-
-returns-4 : tie.Need-returns-4
-returns-4 c = sym (ap outcome (refused-by (c .before .before .before .before .before .before .before .before .args .t1) (sized (c .before .before .before .before .before .before .before .before .args .t1) (c .before .before .before .before .before .before .before .before .good .0, tt)) (c .before .before .before .before .before .before .before .sound .result) (c .before .before .before .before .before .before .before .sound .ensures) (c .before .before .before .before .before .before .if1 .left) (Command.finish (c .before .before .before .before .before .before .before .before .args .id)) Error.InvalidState (iteration-state (c .before .before .before .before .before .before .before .before .args .t1) (sized (c .before .before .before .before .before .before .before .before .args .t1) (c .before .before .before .before .before .before .before .before .good .0, tt)) (c .before .before .before .before .before .before .before .sound .result) (c .before .before .before .before .before .before .before .sound .ensures) (c .before .before .before .before .before .before .if1 .left) (c .before .before .before .before .before .before .before .before .args .id) (c .before .before .if3 .left) (c .before .is-loading .result) (c .before .is-loading .ensures) (c .if4 .taken))))
-
-returns-5 : tie.Need-returns-5
-returns-5 c = sym (ap outcome (refused-by (c .before .before .before .before .before .before .before .before .before .args .t1) (sized (c .before .before .before .before .before .before .before .before .before .args .t1) (c .before .before .before .before .before .before .before .before .before .good .0, tt)) (c .before .before .before .before .before .before .before .before .sound .result) (c .before .before .before .before .before .before .before .before .sound .ensures) (c .before .before .before .before .before .before .before .if1 .left) (Command.finish (c .before .before .before .before .before .before .before .before .before .args .id)) Error.Changed (iteration-retired (c .before .before .before .before .before .before .before .before .before .args .t1) (sized (c .before .before .before .before .before .before .before .before .before .args .t1) (c .before .before .before .before .before .before .before .before .before .good .0, tt)) (c .before .before .before .before .before .before .before .before .sound .result) (c .before .before .before .before .before .before .before .before .sound .ensures) (c .before .before .before .before .before .before .before .if1 .left) (c .before .before .before .before .before .before .before .before .before .args .id) (c .before .before .before .if3 .left) (c .before .before .is-loading .result) (c .before .before .is-loading .ensures) (c .before .if4 .left) (c .if5 .taken))))
+enum-told : tie.Need-enum-told
+enum-told c = search needs
 
 target-table-requires : tie.Need-target-table-requires
 target-table-requires c κs = search needs
 
-returns-6 : tie.Need-returns-6
-returns-6 c = sym (ap outcome (refused-by (c .before .before .before .before .before .before .before .before .before .before .before .before .before .before .args .t1) (sized (c .before .before .before .before .before .before .before .before .before .before .before .before .before .before .args .t1) (c .before .before .before .before .before .before .before .before .before .before .before .before .before .before .good .0, tt)) (c .before .before .before .before .before .before .before .before .before .before .before .before .before .sound .result) (c .before .before .before .before .before .before .before .before .before .before .before .before .before .sound .ensures) (c .before .before .before .before .before .before .before .before .before .before .before .before .if1 .left) (Command.finish (c .before .before .before .before .before .before .before .before .before .before .before .before .before .before .args .id)) Error.Changed (iteration-changed (c .before .before .before .before .before .before .before .before .before .before .before .before .before .before .args .t1) (sized (c .before .before .before .before .before .before .before .before .before .before .before .before .before .before .args .t1) (c .before .before .before .before .before .before .before .before .before .before .before .before .before .before .good .0, tt)) (c .before .before .before .before .before .before .before .before .before .before .before .before .before .sound .result) (c .before .before .before .before .before .before .before .before .before .before .before .before .before .sound .ensures) (c .before .before .before .before .before .before .before .before .before .before .before .before .if1 .left) (c .before .before .before .before .before .before .before .before .before .before .before .before .before .before .args .id) (c .before .before .before .before .before .before .before .before .if3 .left) (c .before .before .before .before .before .before .before .is-loading .result) (c .before .before .before .before .before .before .before .is-loading .ensures) (c .before .before .before .before .before .before .if4 .left) (c .before .before .before .before .before .if5 .left) (c .before .before .target-table .result) (c .before .before .target-table .ensures) (c .if6 .taken))))
+returns-4 : tie.Need-returns-4
+returns-4 c =
+    let s = c .before .before .before .before .before .before .before .before .before .before .before .before .before in
+    let k = s .args .t1 in
+    let z = sized k (s .good .0, tt) in
+    let v = c .before .before .before .before .before .before .before .before .before .before .before .before .sound in
+    let t = c .before .before .before .before .before .before .before .before .before .before .before .if1 .left in
+    let q = done-passed (loadingTests (getD (k .nodes) (s .args .id) blankNode)) _ (c .before .before .before .before .before .before .before .before .check-loading .ensures) (c .before .before .before .before .before .before .enum-told .given .1) in
+    sym (ap outcome (refused-by k z (v .result) (v .ensures) t (Command.finish (s .args .id)) Error.Changed (node-past k z (v .result) (v .ensures) t (s .args .id) loadingTests _ _ (c .before .before .before .before .before .before .before .before .check-loading .ensures) (c .before .before .before .before .before .before .enum-told .given .1) ∙ stop _ _ _ (target-gone k z (v .result) (v .ensures) t (s .args .id) (c .before .before .before .target-table .result) (c .before .before .before .target-table .ensures) (q .0) ∙ c .if3 .taken))))
 
 with-phase-requires : tie.Need-with-phase-requires
 with-phase-requires c κs = search needs
 
-mul-t19 : tie.Need-mul-t19
-mul-t19 c = search needs
+mul-t20 : tie.Need-mul-t20
+mul-t20 c = search needs
 
 element-set-from-self : tie.Need-element-set-from-self
 element-set-from-self c = search needs
 
-returns-7 : tie.Need-returns-7
-returns-7 c =
-    let h : present ((tablesOf (layoutOf (c .before .before .before .before .before .before .before .before .before .before .before .before .before .before .before .args .t1))) .nodes) (c .before .before .before .before .before .before .before .before .before .before .before .before .before .before .before .args .id) ≡ true = node-has (c .before .before .before .before .before .before .before .before .before .before .before .before .before .before .before .args .t1) (sized (c .before .before .before .before .before .before .before .before .before .before .before .before .before .before .before .args .t1) (c .before .before .before .before .before .before .before .before .before .before .before .before .before .before .before .good .0, tt)) (c .before .before .before .before .before .before .before .before .before .before .before .before .before .before .sound .result) (c .before .before .before .before .before .before .before .before .before .before .before .before .before .before .sound .ensures) (c .before .before .before .before .before .before .before .before .before .before .before .before .before .if1 .left) (λ n. n .present) true (c .before .before .before .before .before .before .before .before .before .before .before .before .before .before .before .args .id) (not-false _ (c .before .before .before .before .before .before .before .before .before .if3 .left)) in
-    let r : c .with-phase .result ≡ withPhase Phase.Active (nodeAt ((tablesOf (layoutOf (c .before .before .before .before .before .before .before .before .before .before .before .before .before .before .before .args .t1))) .nodes) (c .before .before .before .before .before .before .before .before .before .before .before .before .before .before .before .args .id)) = c .with-phase .ensures ∙ ap (withPhase Phase.Active) (sym (node-is (c .before .before .before .before .before .before .before .before .before .before .before .before .before .before .before .args .t1) (sized (c .before .before .before .before .before .before .before .before .before .before .before .before .before .before .before .args .t1) (c .before .before .before .before .before .before .before .before .before .before .before .before .before .before .before .good .0, tt)) (c .before .before .before .before .before .before .before .before .before .before .before .before .before .before .sound .result) (c .before .before .before .before .before .before .before .before .before .before .before .before .before .before .sound .ensures) (c .before .before .before .before .before .before .before .before .before .before .before .before .before .if1 .left) (c .before .before .before .before .before .before .before .before .before .before .before .before .before .before .before .args .id))) in
-    sym (ap outcome (accepted-by (c .before .before .before .before .before .before .before .before .before .before .before .before .before .before .before .args .t1) (sized (c .before .before .before .before .before .before .before .before .before .before .before .before .before .before .before .args .t1) (c .before .before .before .before .before .before .before .before .before .before .before .before .before .before .before .good .0, tt)) (c .before .before .before .before .before .before .before .before .before .before .before .before .before .before .sound .result) (c .before .before .before .before .before .before .before .before .before .before .before .before .before .before .sound .ensures) (c .before .before .before .before .before .before .before .before .before .before .before .before .before .if1 .left) (Command.finish (c .before .before .before .before .before .before .before .before .before .before .before .before .before .before .before .args .id)) (iteration-passed (c .before .before .before .before .before .before .before .before .before .before .before .before .before .before .before .args .t1) (sized (c .before .before .before .before .before .before .before .before .before .before .before .before .before .before .before .args .t1) (c .before .before .before .before .before .before .before .before .before .before .before .before .before .before .before .good .0, tt)) (c .before .before .before .before .before .before .before .before .before .before .before .before .before .before .sound .result) (c .before .before .before .before .before .before .before .before .before .before .before .before .before .before .sound .ensures) (c .before .before .before .before .before .before .before .before .before .before .before .before .before .if1 .left) (c .before .before .before .before .before .before .before .before .before .before .before .before .before .before .before .args .id) (c .before .before .before .before .before .before .before .before .before .if3 .left) (c .before .before .before .before .before .before .before .before .is-loading .result) (c .before .before .before .before .before .before .before .before .is-loading .ensures) (c .before .before .before .before .before .before .before .if4 .left) (c .before .before .before .before .before .before .if5 .left) (c .before .before .before .target-table .result) (c .before .before .before .target-table .ensures) (c .before .if6 .left))) ∙ ap (λ (x : Kernel). record { kernel = x; answer = Answer.Done }) (node-stored (c .before .before .before .before .before .before .before .before .before .before .before .before .before .before .before .args .t1) (sized (c .before .before .before .before .before .before .before .before .before .before .before .before .before .before .before .args .t1) (c .before .before .before .before .before .before .before .before .before .before .before .before .before .before .before .good .0, tt)) (c .before .before .before .before .before .before .before .before .before .before .before .before .before .before .sound .result) (c .before .before .before .before .before .before .before .before .before .before .before .before .before .before .sound .ensures) (c .before .before .before .before .before .before .before .before .before .before .before .before .before .if1 .left) (c .before .before .before .before .before .before .before .before .before .before .before .before .before .before .before .args .id) _ h ∙ rw (← r)))
+returns-5 : tie.Need-returns-5
+returns-5 c =
+    let s = c .before .before .before .before .before .before .before .before .before .before .before .before .before .before in
+    let k = s .args .t1 in
+    let z = sized k (s .good .0, tt) in
+    let v = c .before .before .before .before .before .before .before .before .before .before .before .before .before .sound in
+    let t = c .before .before .before .before .before .before .before .before .before .before .before .before .if1 .left in
+    let p = node-passed k z (v .result) (v .ensures) t (s .args .id) loadingTests _ (c .before .before .before .before .before .before .before .before .before .check-loading .ensures) (c .before .before .before .before .before .before .before .enum-told .given .1) in
+    let q = done-passed (loadingTests (getD (k .nodes) (s .args .id) blankNode)) _ (c .before .before .before .before .before .before .before .before .before .check-loading .ensures) (c .before .before .before .before .before .before .before .enum-told .given .1) in
+    let h : present ((tablesOf (layoutOf k)) .nodes) (s .args .id) ≡ true = not-f _ (p .0) in
+    let r : c .with-phase .result ≡ withPhase Phase.Active (nodeAt ((tablesOf (layoutOf k)) .nodes) (s .args .id)) = c .with-phase .ensures ∙ ap (withPhase Phase.Active) (sym (node-is k z (v .result) (v .ensures) t (s .args .id))) in
+    sym (ap outcome (accepted-by k z (v .result) (v .ensures) t (Command.finish (s .args .id)) (p .0, (p .1 .0, (target-gone k z (v .result) (v .ensures) t (s .args .id) (c .before .before .before .before .target-table .result) (c .before .before .before .before .target-table .ensures) (q .0) ∙ c .before .if3 .left, tt)))) ∙ ap (λ (x : Kernel). record { kernel = x; answer = Answer.Done }) (node-stored k z (v .result) (v .ensures) t (s .args .id) _ h ∙ rw (← r)))
 
 pub finish-spec : {M : Type 1} → statement M
 finish-spec =
@@ -76,13 +107,13 @@ finish-spec =
     returns-2
     mul-node
     element-copy-out-node
+    check-loading-requires
+    enum-known-checked
     returns-3
-    is-loading-requires
-    returns-4
-    returns-5
+    enum-told
     target-table-requires
-    returns-6
+    returns-4
     with-phase-requires
-    mul-t19
+    mul-t20
     element-set-from-self
-    returns-7)
+    returns-5)
