@@ -1,0 +1,104 @@
+// Ports, port lists, and a kernel with one record or count of a table written by hand.
+use kernel::Kernel;
+use model::Binding;
+use model::Declaration;
+use model::Link;
+use model::Node;
+use model::Parent;
+use model::Phase;
+use model::Port;
+use model::PortList;
+
+pub fn port(key: u64, realm: u64) -> Port {
+    Port {
+        key: key,
+        realm: realm,
+    }
+}
+
+// One port as many times as the count says; the entries past a smaller count are that port too.
+pub fn copies(port: Port, count: usize) -> PortList {
+    PortList {
+        ports: [port; 32],
+        count: count,
+    }
+}
+
+// The empty list.
+pub fn no_ports() -> PortList {
+    copies(port(0, 0), 0)
+}
+
+// The ports of keys 0 to 31 in this realm; a count over 32 is a list that is too long.
+pub fn ports(realm: u64, count: usize) -> PortList {
+    let mut ports = [Port { key: 0, realm: 0 }; 32];
+    let mut i = 0;
+    while i < 32 {
+        ports[i] = port(i as u64, realm);
+        i += 1;
+    }
+    PortList {
+        ports: ports,
+        count: count,
+    }
+}
+
+pub fn node(
+    present: bool,
+    retired: bool,
+    phase: Phase,
+    restoring: bool,
+    parent: Parent,
+    generation: u64,
+) -> Node {
+    Node {
+        present: present,
+        retired: retired,
+        phase: phase,
+        restoring: restoring,
+        parent: parent,
+        generation: generation,
+    }
+}
+
+pub fn link(consumer: usize, port: Port, provider: usize, live: bool) -> Link {
+    Link {
+        consumer: consumer,
+        binding: Binding {
+            key: port.key,
+            realm: port.realm,
+            provider: provider,
+        },
+        live: live,
+    }
+}
+
+// The kernel with this node at this place; a place past the table is left out.
+pub fn with_node(mut k: Kernel, place: usize, node: Node) -> Kernel {
+    if place < 64 {
+        k.nodes[place] = node;
+    }
+    k
+}
+
+pub fn with_declaration(mut k: Kernel, place: usize, declaration: Declaration) -> Kernel {
+    if place < 256 {
+        k.declarations[place] = declaration;
+    }
+    k
+}
+
+pub fn with_link(mut k: Kernel, place: usize, link: Link) -> Kernel {
+    if place < 512 {
+        k.links[place] = link;
+    }
+    k
+}
+
+// The kernel with these counts.
+pub fn with_counts(mut k: Kernel, nodes: usize, declarations: usize, links: usize) -> Kernel {
+    k.node_count = nodes;
+    k.declaration_count = declarations;
+    k.link_count = links;
+    k
+}

@@ -1,0 +1,50 @@
+-- `samples::tables::declarations` is safe and ends. The index is below the size at each read.
+use Prim.Native.Nat.{_-_}
+use native.Mathlib.Omega.{arith}
+use Rattle.samples.proofs.tables.declarations.Statement.{statement}
+use Rattle.samples.proofs.tables.declarations.Tie as tie
+
+abbrev Inv-loop : tie.InvT-loop
+Inv-loop declarations count i₀ i = Unit {0}
+
+abbrev μ-loop : tie.MeasureT-loop
+μ-loop declarations count i₀ i = 256 - i
+
+loop-holds : tie.Need-loop-holds Inv-loop μ-loop
+loop-holds c = tt
+
+mul-declaration : tie.Need-mul-declaration Inv-loop μ-loop
+mul-declaration c = omega arith
+
+array-copy-out-declaration : tie.Need-array-copy-out-declaration Inv-loop μ-loop
+array-copy-out-declaration c = omega arith
+
+declaration-requires : tie.Need-declaration-requires Inv-loop μ-loop
+declaration-requires c κs = tt
+
+add-i : tie.Need-add-i Inv-loop μ-loop
+add-i c = omega arith
+
+loop-less : tie.Need-loop-less Inv-loop μ-loop
+loop-less c = omega arith
+
+loop-again : tie.Need-loop-again Inv-loop μ-loop
+loop-again c = tt
+
+returns : tie.Need-returns Inv-loop μ-loop
+returns c = tt
+
+pub declarations-spec : {M : Type 1} → statement M
+declarations-spec =
+    tie.close
+    (tie.spec
+    Inv-loop
+    μ-loop
+    loop-holds
+    mul-declaration
+    array-copy-out-declaration
+    declaration-requires
+    add-i
+    loop-less
+    loop-again
+    returns)
