@@ -1,0 +1,170 @@
+// The player: the kernel, the two pending lists and the place in the log.
+use crate::log;
+use kernel::Kernel;
+use model::InsertAnswer;
+use model::Port;
+use model::PortList;
+
+// at: the next byte of the log; answered: the answers written last; detail: of the last command, the identity that
+// an accepted insert issued or the count that an accepted compaction removed, else 0.
+pub struct Player {
+    pub kernel: Kernel,
+    pub dependencies: PortList,
+    pub provisions: PortList,
+    pub at: usize,
+    pub answered: usize,
+    pub detail: u64,
+}
+
+// What adding a port to a pending list gives.
+struct Addition {
+    list: PortList,
+    answer: u8,
+}
+
+fn empty_list() -> PortList {
+    let port = model::blank_port();
+    let ports = [port; 32];
+    PortList {
+        ports: ports,
+        count: 0,
+    }
+}
+
+// The empty kernel, before the log's first byte.
+pub fn start() -> Player {
+    let kernel = Kernel::new();
+    let list = empty_list();
+    Player {
+        kernel: kernel,
+        dependencies: list,
+        provisions: list,
+        at: 0,
+        answered: 0,
+        detail: 0,
+    }
+}
+
+// The port after the others, or 9 if there are 32.
+fn add(mut list: PortList, port: Port) -> Addition {
+    let count = list.count;
+    if 32 <= count {
+        return Addition {
+            list: list,
+            answer: 9,
+        };
+    }
+    list.ports[count] = port;
+    list.count = count + 1;
+    Addition {
+        list: list,
+        answer: 0,
+    }
+}
+
+fn issued(answer: InsertAnswer) -> u64 {
+    match answer {
+        InsertAnswer::Done(id) => id as u64,
+        InsertAnswer::Refused(_) => 0,
+    }
+}
+
+// Plays on until the log ends, the answers are full, a byte outside 01 to 10 (11) or cut operands (12).
+pub fn play(player: Player, log: &[u8], answers: &mut [u8]) -> Player {
+    let mut kernel = player.kernel;
+    let mut dependencies = player.dependencies;
+    let mut provisions = player.provisions;
+    let mut at = player.at;
+    let mut answered = 0;
+    let mut detail = 0;
+    while at < log.len() {
+        if answers.len() <= answered {
+            break;
+        }
+        detail = 0;
+        let byte = log[at];
+        let length = log::length_of(byte);
+        if (byte < 1) | (16 < byte) {
+            answers[answered] = 11;
+            answered += 1;
+            break;
+        }
+        if log.len() - at <= length {
+            answers[answered] = 12;
+            answered += 1;
+            break;
+        }
+        let operands = &log[at + 1..at + 1 + length];
+        let id = log::identity(operands);
+        let mut answer = 0;
+        match byte {
+            1 => {
+                let added = add(dependencies, log::port_at(operands, 0));
+                dependencies = added.list;
+                answer = added.answer;
+            }
+            2 => {
+                let added = add(provisions, log::port_at(operands, 0));
+                provisions = added.list;
+                answer = added.answer;
+            }
+            3 => {
+                let parent = log::parent(operands);
+                let outcome = kernel.insert(parent, dependencies, provisions);
+                kernel = outcome.kernel;
+                let inserted = outcome.answer;
+                answer = model::insert_answer_number(inserted);
+                detail = issued(inserted);
+                dependencies.count = 0;
+                provisions.count = 0;
+            }
+            12 => {
+                let outcome = kernel.compact_bindings();
+                kernel = outcome.kernel;
+                let compacted = outcome.answer;
+                answer = model::answer_number(compacted);
+                detail = outcome.removed as u64;
+            }
+            13 => {
+                let outcome = kernel.compact_declarations();
+                kernel = outcome.kernel;
+                let compacted = outcome.answer;
+                answer = model::answer_number(compacted);
+                detail = outcome.removed as u64;
+            }
+            _ => {
+                let outcome = match byte {
+                    4 => kernel.begin(id),
+                    5 => kernel.finish(id),
+                    6 => kernel.leave(id),
+                    7 => kernel.leave_if_changed(id),
+                    8 => kernel.retire(id),
+                    9 => kernel.begin_cleanup(id),
+                    10 => kernel.finish_cleanup(id),
+                    11 => kernel.remove(id),
+                    14 => kernel.declare_provision(id, log::port_at(operands, 1)),
+                    15 => kernel.release_provision(id, log::port_at(operands, 1)),
+                    _ => kernel.configure_pending_dependencies(id, dependencies),
+                };
+                kernel = outcome.kernel;
+                let done = outcome.answer;
+                answer = model::answer_number(done);
+                if byte == 16 {
+                    dependencies.count = 0;
+                    provisions.count = 0;
+                }
+            }
+        }
+        answers[answered] = answer;
+        answered += 1;
+        at = at + 1 + length;
+    }
+    Player {
+        kernel: kernel,
+        dependencies: dependencies,
+        provisions: provisions,
+        at: at,
+        answered: answered,
+        detail: detail,
+    }
+}

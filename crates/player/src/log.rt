@@ -1,0 +1,71 @@
+// The format of a log: a command byte, then its operands.
+use model::Parent;
+use model::Port;
+
+// The operand length of each command, by its byte less one.
+const LENGTHS: [usize; 16] = [16, 16, 1, 1, 1, 1, 1, 1, 1, 1, 1, 0, 0, 17, 17, 1];
+
+// The operand length of a command byte, 0 for a byte outside 01 to 10.
+pub fn length_of(byte: u8) -> usize {
+    let place = byte as usize;
+    if place < 1 {
+        return 0;
+    }
+    if 16 < place {
+        return 0;
+    }
+    LENGTHS[place - 1]
+}
+
+// The byte at this place, 0 past the end.
+pub fn byte_at(bytes: &[u8], place: usize) -> u8 {
+    if place < bytes.len() { bytes[place] } else { 0 }
+}
+
+// The identity in the first byte.
+pub fn identity(operands: &[u8]) -> usize {
+    byte_at(operands, 0) as usize
+}
+
+// The parent in the first byte, FF for none.
+pub fn parent(operands: &[u8]) -> Parent {
+    let byte = byte_at(operands, 0);
+    if byte == 255 {
+        Parent::None
+    } else {
+        Parent::Of(byte as usize)
+    }
+}
+
+// The byte i places after this place, 0 past the end.
+fn byte_after(bytes: &[u8], place: usize, i: usize) -> u8 {
+    if bytes.len() <= place {
+        return 0;
+    }
+    if i < bytes.len() - place {
+        bytes[place + i]
+    } else {
+        0
+    }
+}
+
+// Eight bytes from this place, least first.
+fn word_at(bytes: &[u8], place: usize) -> u64 {
+    let mut word = 0;
+    let mut i = 8;
+    while 0 < i {
+        i -= 1;
+        word = (word << 8) | (byte_after(bytes, place, i) as u64);
+    }
+    word
+}
+
+// The key and the realm from this place.
+pub fn port_at(bytes: &[u8], place: u8) -> Port {
+    let key = place as usize;
+    let realm = key + 8;
+    Port {
+        key: word_at(bytes, key),
+        realm: word_at(bytes, realm),
+    }
+}

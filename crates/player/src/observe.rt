@@ -1,0 +1,160 @@
+// The part of a record that some commands have: each observer's answer to a question.
+use crate::commands::Player;
+use crate::log;
+use crate::put;
+use crate::tables;
+use kernel::Kernel;
+use model::Binding;
+use model::OptionGeneration;
+use model::OptionPhase;
+use model::Port;
+use model::Resolution;
+use scans::CommittedBindings;
+use scans::Identities;
+use scans::TargetBindings;
+
+fn phase(out: &mut [u8], at: usize, answer: OptionPhase) -> usize {
+    match answer {
+        OptionPhase::Some(phase) => put::byte(out, at, tables::phase_number(phase)),
+        OptionPhase::None => put::byte(out, at, 255),
+    }
+}
+
+fn generation(out: &mut [u8], at: usize, answer: OptionGeneration) -> usize {
+    match answer {
+        OptionGeneration::Some(generation) => put::some(out, at, generation),
+        OptionGeneration::None => put::none(out, at),
+    }
+}
+
+fn resolution(out: &mut [u8], at: usize, answer: Resolution) -> usize {
+    match answer {
+        Resolution::Provider(id) => put::some(out, at, id as u64),
+        Resolution::None => put::none(out, at),
+    }
+}
+
+fn binding(out: &mut [u8], at: usize, binding: Binding) -> usize {
+    let at = put::word(out, at, binding.key);
+    let at = put::word(out, at, binding.realm);
+    put::identity(out, at, binding.provider)
+}
+
+fn identities(out: &mut [u8], at: usize, list: Identities) -> usize {
+    let ids = list.ids;
+    let count = list.count;
+    let end = scans::at_most(count, 64);
+    let mut at = put::small(out, at, count);
+    let mut i = 0;
+    while i < end {
+        at = put::small(out, at, ids[i]);
+        i += 1;
+    }
+    at
+}
+
+fn target(out: &mut [u8], at: usize, answer: TargetBindings) -> usize {
+    let bindings = answer.bindings;
+    let count = answer.count;
+    let end = scans::at_most(count, 256);
+    let at = put::flag(out, at, answer.there);
+    let mut at = put::half(out, at, count);
+    let mut i = 0;
+    while i < end {
+        at = binding(out, at, bindings[i]);
+        i += 1;
+    }
+    at
+}
+
+fn committed(out: &mut [u8], at: usize, answer: CommittedBindings) -> usize {
+    let bindings = answer.bindings;
+    let count = answer.count;
+    let end = scans::at_most(count, 512);
+    let mut at = put::half(out, at, count);
+    let mut i = 0;
+    while i < end {
+        at = binding(out, at, bindings[i]);
+        i += 1;
+    }
+    at
+}
+
+// The observers of one component.
+fn component(out: &mut [u8], at: usize, kernel: Kernel, id: usize) -> usize {
+    let at = put::flag(out, at, kernel.sound());
+    let at = put::flag(out, at, kernel.contains(id));
+    let at = phase(out, at, kernel.phase(id));
+    let at = put::flag(out, at, kernel.retired(id));
+    let at = put::flag(out, at, kernel.cleanup_started(id));
+    generation(out, at, kernel.episode_generation(id))
+}
+
+fn counts(out: &mut [u8], at: usize, kernel: Kernel) -> usize {
+    let at = put::half(out, at, kernel.binding_records());
+    let at = put::half(out, at, kernel.identity_slots());
+    put::half(out, at, kernel.declaration_records())
+}
+
+// What is declared, and the lists of identities.
+fn declared(out: &mut [u8], at: usize, kernel: Kernel, id: usize, port: Port) -> usize {
+    let at = put::flag(out, at, kernel.dependency_declared(id, port));
+    let at = put::flag(out, at, kernel.provision_reserved(id, port));
+    let at = identities(out, at, kernel.ids());
+    identities(out, at, kernel.children(id))
+}
+
+fn bindings(out: &mut [u8], at: usize, kernel: Kernel, id: usize, port: Port) -> usize {
+    let at = resolution(out, at, kernel.resolve(port));
+    let at = target(out, at, kernel.target(id));
+    committed(out, at, kernel.committed(id))
+}
+
+// check_iteration of the identity, and check_insert of the pending lists under it, FF for no parent.
+fn checks(out: &mut [u8], at: usize, player: Player, question: &[u8]) -> usize {
+    let kernel = player.kernel;
+    let dependencies = player.dependencies;
+    let provisions = player.provisions;
+    let iteration = kernel.check_iteration(log::identity(question));
+    let insertion = kernel.check_insert(log::parent(question), dependencies, provisions);
+    let at = put::byte(out, at, model::answer_number(iteration));
+    put::byte(out, at, model::answer_number(insertion))
+}
+
+fn answers(out: &mut [u8], at: usize, player: Player, question: &[u8]) -> usize {
+    let kernel = player.kernel;
+    let id = log::identity(question);
+    let port = log::port_at(question, 1);
+    let at = put::byte(out, at, 1);
+    let at = component(out, at, kernel, id);
+    let at = counts(out, at, kernel);
+    let at = declared(out, at, kernel, id, port);
+    let at = bindings(out, at, kernel, id, port);
+    checks(out, at, player, question)
+}
+
+// Whether the command of this index has a question: it is one in every, and its 17 bytes are there.
+fn has_question(questions: &[u8], every: usize, index: usize) -> bool {
+    if every == 0 {
+        return false;
+    }
+    (index % every == 0) & (index < questions.len() / 17)
+}
+
+// The answers to the question of this index, or 0 if it has none.
+pub fn asked(
+    out: &mut [u8],
+    at: usize,
+    player: Player,
+    questions: &[u8],
+    every: usize,
+    index: usize,
+) -> usize {
+    if has_question(questions, every, index) {
+        if index < questions.len() / 17 {
+            let question = &questions[index * 17..index * 17 + 17];
+            return answers(out, at, player, question);
+        }
+    }
+    put::byte(out, at, 0)
+}

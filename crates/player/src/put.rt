@@ -1,0 +1,65 @@
+// Bytes at the end of what is written; each function gives the place after them. A byte past the end is left out.
+
+// How many bytes are free.
+pub fn free(out: &[u8], at: usize) -> usize {
+    if at < out.len() { out.len() - at } else { 0 }
+}
+
+pub fn byte(out: &mut [u8], at: usize, byte: u8) -> usize {
+    if at < out.len() {
+        out[at] = byte;
+        at + 1
+    } else {
+        at
+    }
+}
+
+// 1 for yes, 0 for no.
+pub fn flag(out: &mut [u8], at: usize, flag: bool) -> usize {
+    if flag {
+        byte(out, at, 1)
+    } else {
+        byte(out, at, 0)
+    }
+}
+
+// The low bytes of a number, least first.
+fn bytes(out: &mut [u8], at: usize, number: u64, count: usize) -> usize {
+    let mut at = at;
+    let mut rest = number;
+    let mut i = 0;
+    while i < count {
+        at = byte(out, at, (rest % 256) as u8);
+        rest = rest / 256;
+        i += 1;
+    }
+    at
+}
+
+// A number of one byte.
+pub fn small(out: &mut [u8], at: usize, number: usize) -> usize {
+    bytes(out, at, number as u64, 1)
+}
+
+pub fn half(out: &mut [u8], at: usize, number: usize) -> usize {
+    bytes(out, at, number as u64, 2)
+}
+
+pub fn word(out: &mut [u8], at: usize, number: u64) -> usize {
+    bytes(out, at, number, 8)
+}
+
+pub fn identity(out: &mut [u8], at: usize, id: usize) -> usize {
+    bytes(out, at, id as u64, 8)
+}
+
+// An identity or a number that may be missing: 1 and it, or 0 and 0.
+pub fn some(out: &mut [u8], at: usize, number: u64) -> usize {
+    let at = byte(out, at, 1);
+    word(out, at, number)
+}
+
+pub fn none(out: &mut [u8], at: usize) -> usize {
+    let at = byte(out, at, 0);
+    word(out, at, 0)
+}

@@ -1,0 +1,100 @@
+// The part of a record that every command has: its detail, the counts and the records below them.
+use crate::commands::Player;
+use crate::put;
+use kernel::Kernel;
+use model::Declaration;
+use model::Link;
+use model::Node;
+use model::Parent;
+use model::Phase;
+
+pub fn phase_number(phase: Phase) -> u8 {
+    match phase {
+        Phase::Inactive => 0,
+        Phase::Loading => 1,
+        Phase::Active => 2,
+        Phase::Unloading => 3,
+    }
+}
+
+fn parent(out: &mut [u8], at: usize, parent: Parent) -> usize {
+    match parent {
+        Parent::Of(id) => put::some(out, at, id as u64),
+        Parent::None => put::none(out, at),
+    }
+}
+
+fn node(out: &mut [u8], at: usize, node: Node) -> usize {
+    let phase = node.phase;
+    let above = node.parent;
+    let at = put::flag(out, at, node.present);
+    let at = put::flag(out, at, node.retired);
+    let at = put::byte(out, at, phase_number(phase));
+    let at = put::flag(out, at, node.restoring);
+    let at = parent(out, at, above);
+    put::word(out, at, node.generation)
+}
+
+fn declaration(out: &mut [u8], at: usize, declaration: Declaration) -> usize {
+    let port = declaration.port;
+    let at = put::identity(out, at, declaration.owner);
+    let at = put::word(out, at, port.key);
+    let at = put::word(out, at, port.realm);
+    put::flag(out, at, declaration.provides)
+}
+
+fn link(out: &mut [u8], at: usize, link: Link) -> usize {
+    let binding = link.binding;
+    let at = put::identity(out, at, link.consumer);
+    let at = put::word(out, at, binding.key);
+    let at = put::word(out, at, binding.realm);
+    let at = put::identity(out, at, binding.provider);
+    put::flag(out, at, link.live)
+}
+
+fn nodes(out: &mut [u8], at: usize, kernel: Kernel) -> usize {
+    let nodes = kernel.nodes;
+    let end = scans::at_most(kernel.node_count, 64);
+    let mut at = at;
+    let mut i = 0;
+    while i < end {
+        at = node(out, at, nodes[i]);
+        i += 1;
+    }
+    at
+}
+
+fn declarations(out: &mut [u8], at: usize, kernel: Kernel) -> usize {
+    let declarations = kernel.declarations;
+    let end = scans::at_most(kernel.declaration_count, 256);
+    let mut at = at;
+    let mut i = 0;
+    while i < end {
+        at = declaration(out, at, declarations[i]);
+        i += 1;
+    }
+    at
+}
+
+fn links(out: &mut [u8], at: usize, kernel: Kernel) -> usize {
+    let links = kernel.links;
+    let end = scans::at_most(kernel.link_count, 512);
+    let mut at = at;
+    let mut i = 0;
+    while i < end {
+        at = link(out, at, links[i]);
+        i += 1;
+    }
+    at
+}
+
+pub fn all(out: &mut [u8], at: usize, player: Player) -> usize {
+    let kernel = player.kernel;
+    let at = put::word(out, at, player.detail);
+    let at = put::half(out, at, kernel.node_count);
+    let at = put::half(out, at, kernel.declaration_count);
+    let at = put::half(out, at, kernel.link_count);
+    let at = nodes(out, at, kernel);
+    let at = declarations(out, at, kernel);
+    links(out, at, kernel)
+}
