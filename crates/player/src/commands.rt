@@ -98,17 +98,17 @@ pub fn play(player: Player, log: &[u8], answers: &mut [u8]) -> Player {
         let id = log::identity(operands);
         let mut answer = 0;
         match byte {
-            1 => {
+            0x01 => {
                 let added = add(dependencies, log::port_at(operands, 0));
                 dependencies = added.list;
                 answer = added.answer;
             }
-            2 => {
+            0x02 => {
                 let added = add(provisions, log::port_at(operands, 0));
                 provisions = added.list;
                 answer = added.answer;
             }
-            3 => {
+            0x03 => {
                 let parent = log::parent(operands);
                 let outcome = kernel.insert(parent, dependencies, provisions);
                 kernel = outcome.kernel;
@@ -118,15 +118,11 @@ pub fn play(player: Player, log: &[u8], answers: &mut [u8]) -> Player {
                 dependencies.count = 0;
                 provisions.count = 0;
             }
-            12 => {
-                let outcome = kernel.compact_bindings();
-                kernel = outcome.kernel;
-                let compacted = outcome.answer;
-                answer = model::answer_number(compacted);
-                detail = outcome.removed as u64;
-            }
-            13 => {
-                let outcome = kernel.compact_declarations();
+            0x0C | 0x0D => {
+                let outcome = match byte {
+                    0x0C => kernel.compact_bindings(),
+                    _ => kernel.compact_declarations(),
+                };
                 kernel = outcome.kernel;
                 let compacted = outcome.answer;
                 answer = model::answer_number(compacted);
@@ -134,22 +130,22 @@ pub fn play(player: Player, log: &[u8], answers: &mut [u8]) -> Player {
             }
             _ => {
                 let outcome = match byte {
-                    4 => kernel.begin(id),
-                    5 => kernel.finish(id),
-                    6 => kernel.leave(id),
-                    7 => kernel.leave_if_changed(id),
-                    8 => kernel.retire(id),
-                    9 => kernel.begin_cleanup(id),
-                    10 => kernel.finish_cleanup(id),
-                    11 => kernel.remove(id),
-                    14 => kernel.declare_provision(id, log::port_at(operands, 1)),
-                    15 => kernel.release_provision(id, log::port_at(operands, 1)),
+                    0x04 => kernel.begin(id),
+                    0x05 => kernel.finish(id),
+                    0x06 => kernel.leave(id),
+                    0x07 => kernel.leave_if_changed(id),
+                    0x08 => kernel.retire(id),
+                    0x09 => kernel.begin_cleanup(id),
+                    0x0A => kernel.finish_cleanup(id),
+                    0x0B => kernel.remove(id),
+                    0x0E => kernel.declare_provision(id, log::port_at(operands, 1)),
+                    0x0F => kernel.release_provision(id, log::port_at(operands, 1)),
                     _ => kernel.configure_pending_dependencies(id, dependencies),
                 };
                 kernel = outcome.kernel;
                 let done = outcome.answer;
                 answer = model::answer_number(done);
-                if byte == 16 {
+                if byte == 0x10 {
                     dependencies.count = 0;
                     provisions.count = 0;
                 }

@@ -2,7 +2,7 @@
 mod commands;
 mod log;
 mod observe;
-mod put;
+pub mod put;
 mod tables;
 
 pub use commands::Player;

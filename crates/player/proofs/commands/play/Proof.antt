@@ -84,14 +84,11 @@ issued-requires c κs = tt
 compact-bindings-requires : tie.Need-compact-bindings-requires Inv-loop μ-loop
 compact-bindings-requires c κs = tt
 
-answer-number-requires : tie.Need-answer-number-requires Inv-loop μ-loop
-answer-number-requires c κs = tt
-
 compact-declarations-requires : tie.Need-compact-declarations-requires Inv-loop μ-loop
 compact-declarations-requires c κs = tt
 
-answer-number-requires-2 : tie.Need-answer-number-requires-2 Inv-loop μ-loop
-answer-number-requires-2 c κs = tt
+answer-number-requires : tie.Need-answer-number-requires Inv-loop μ-loop
+answer-number-requires c κs = tt
 
 begin-requires : tie.Need-begin-requires Inv-loop μ-loop
 begin-requires c κs = tt
@@ -133,8 +130,8 @@ configure-pending-dependencies-requires :
     tie.Need-configure-pending-dependencies-requires Inv-loop μ-loop
 configure-pending-dependencies-requires c κs = tt
 
-answer-number-requires-3 : tie.Need-answer-number-requires-3 Inv-loop μ-loop
-answer-number-requires-3 c κs = tt
+answer-number-requires-2 : tie.Need-answer-number-requires-2 Inv-loop μ-loop
+answer-number-requires-2 c κs = tt
 
 slice-write-answers-3 : tie.Need-slice-write-answers-3 Inv-loop μ-loop
 slice-write-answers-3 c = omega arith
@@ -208,9 +205,8 @@ play-spec =
     insert-answer-number-requires
     issued-requires
     compact-bindings-requires
-    answer-number-requires
     compact-declarations-requires
-    answer-number-requires-2
+    answer-number-requires
     begin-requires
     finish-requires
     leave-requires
@@ -224,7 +220,7 @@ play-spec =
     port-at-requires-4
     release-provision-requires
     configure-pending-dependencies-requires
-    answer-number-requires-3
+    answer-number-requires-2
     slice-write-answers-3
     add-answered-3
     add-at
