@@ -1,0 +1,60 @@
+// Plays logs of commands: an answer on a line for each command, then the tables.
+mod output;
+mod records;
+
+use libc::STDERR_FILENO;
+use libc::STDIN_FILENO;
+
+fn cannot_read(name: &[u8]) {
+    io::write_all(STDERR_FILENO, b"replay: cannot read ");
+    io::write_all(STDERR_FILENO, name);
+    io::write_all(STDERR_FILENO, b"\n");
+}
+
+// Plays the first 65,536 bytes of what is open.
+fn replay(fd: i32, name: &[u8]) {
+    let mut log = io::large_buffer();
+    let n = io::read_full(fd, &mut log);
+    let mut more = [0u8; 1];
+    if libc::read(fd, &mut more) < 0 {
+        cannot_read(name);
+        return;
+    }
+    let mut answers = io::large_buffer();
+    let played = player::play(player::start(), &log[..n], &mut answers);
+    let mut out = io::large_buffer();
+    let at = output::answers(&mut out, &answers, played.answered);
+    records::tables(&mut out, at, played.kernel);
+}
+
+// A line with the name, then its log.
+fn replay_file(name: &[u8]) {
+    let fd = os::open_read(name);
+    if fd < 0 {
+        cannot_read(name);
+        return;
+    }
+    io::write_all(1, b"== ");
+    io::write_all(1, name);
+    io::write_all(1, b"\n");
+    replay(fd, name);
+    libc::close(fd);
+}
+
+fn replay_argument(i: usize) {
+    let mut name = io::buffer();
+    let n = os::arg(i, &mut name);
+    replay_file(&name[..n]);
+}
+
+fn main() {
+    let count = os::arg_count();
+    if count < 2 {
+        replay(STDIN_FILENO, b"standard input");
+    }
+    let mut i = 1;
+    while i < count {
+        replay_argument(i);
+        i += 1;
+    }
+}
