@@ -1,9 +1,9 @@
--- ids and children: which identities they list.
+-- ids and children: which identities they list, and that these ascend.
 use mathlib.Core.Path.{_≡_, refl, subst}
 use mathlib.Core.Bool.{Bool, cond, false, true}
 use mathlib.Core.List.{List, List·Memᴰ, List·Memᴰ·head, List·Memᴰ·not-nil, List·Memᴰ·tail, Memᴰ·cast, [], _∷_}
 use mathlib.Core.Logic.{_↔_}
-use Prim.Native.Nat.{_+_, _<_, suc, zero, ℕ}
+use Prim.Native.Nat.{_+_, _<_, _≤_, suc, zero, ℕ}
 use native.Mathlib.Omega.{arith}
 use lib.ListN.{getD, length}
 use Rattle.model.specs.declared.Node.{Node}
@@ -40,6 +40,24 @@ module _ {A : Type 0} (p : A → Bool) where
       go true m = List·Memᴰ·tail m
       go false m = m
 
+-- each entry at least i and greater than the one before it
+abbrev pub Ascending : ℕ → List ℕ → Type 0
+Ascending i [] = Unit {0}
+Ascending i (x ∷ xs) = (i ≤ x) × Ascending (suc x) xs
+
+ascending-from : (i : ℕ) (xs : List ℕ) → Ascending (suc i) xs → Ascending i xs
+ascending-from i [] h = tt
+ascending-from i (x ∷ xs) h = (omega (arith, h .0), h .1)
+
+places-ascend : {A : Type 0} (p : A → Bool) (k : ℕ) (xs : List A) → Ascending k (places p k xs)
+unfolding places
+places-ascend p k [] = tt
+places-ascend p k (x ∷ xs) = go (p x) (places-ascend p (suc k) xs)
+  where
+    go : (b : Bool) → Ascending (suc k) (places p (suc k) xs) → Ascending k (cond b (k ∷ places p (suc k) xs) (places p (suc k) xs))
+    go true h = (omega arith, h)
+    go false h = ascending-from k (places p (suc k) xs) h
+
 module _ (T : Tables) (p : Node → Bool) where
   node-places : (i : ℕ) → List·Memᴰ i (places p 0 (T .nodes)) → p (nodeAt (T .nodes) i) ≡ true
   unfolding nodeAt
@@ -56,6 +74,12 @@ module _ (T : Tables) (p : Node → Bool) where
 pub ids-present : (T : Tables) (i : ℕ) → List·Memᴰ i (ids T) ↔ (present (T .nodes) i ≡ true)
 ids-present T i = (node-places T (λ n. n .present) i, λ h. places-node T (λ n. n .present) i (present-lt _ _ h) h)
 
+pub ids-ascend : (T : Tables) → Ascending 0 (ids T)
+ids-ascend T = places-ascend (λ n. n .present) 0 (T .nodes)
+
 -- just the present identities with that parent
 pub children-present : (T : Tables) (id i : ℕ) → List·Memᴰ i (children T id) ↔ (isChildOf id (nodeAt (T .nodes) i) ≡ true)
 children-present T id i = (node-places T (isChildOf id) i, λ h. places-node T (isChildOf id) i (present-lt _ _ (and-l (present (T .nodes) i) _ h)) h)
+
+pub children-ascend : (T : Tables) (id : ℕ) → Ascending 0 (children T id)
+children-ascend T id = places-ascend (isChildOf id) 0 (T .nodes)
