@@ -8,3 +8,4 @@ pub mod Resolving
 pub mod Marking
 pub mod Distinct
 pub mod Parents
+pub mod Chains

@@ -1,10 +1,10 @@
 // The loops that read a kernel's tables. A table of records comes by value, once a call; what a loop calls is lent columns or gets single records.
 ghost use mathlib.Core.Path.{_≡_};
 ghost use mathlib.Core.Bool.{Bool, true, false, not, _&&_};
-ghost use mathlib.Core.List.{List, map};
+ghost use mathlib.Core.List.{List, [], map};
 ghost use mathlib.Core.Option.{none};
-ghost use Prim.Native.Nat.{ℕ, _≤_};
-ghost use lib.ListN.{length, take, drop};
+ghost use Prim.Native.Nat.{ℕ, _≤_, _<_};
+ghost use lib.ListN.{length, take, drop, replicate};
 ghost use Rattle.model.specs.Lists.{all, any, allAt, keep, places, padded};
 ghost use Rattle.model.specs.Records.{isBlankNode, isBlankDeclaration, isBlankLink, isChildOf, isProviding};
 ghost use Rattle.model.specs.Soundness.{parentOk, nodeOk, hasOwner, sameOwner, isDeclaration, linkOk, ordered, linksTo, isCovered};
@@ -13,6 +13,7 @@ ghost use Rattle.model.specs.UpdateNode.{updateNodeTests, updateTests};
 ghost use Rattle.model.specs.Interface.{listed, distinct, takenBy, reliesOn};
 ghost use Rattle.model.specs.Resolution.{resolve, dependencyPorts, bindPorts, committed};
 ghost use Rattle.scans.specs.Columns.{declarationsOf, linksOf, flag, endsBelow};
+ghost use Rattle.scans.specs.Chains.{bucketOf, bucketAt, Chained};
 ghost use Rattle.scans.specs.Answers.{flagsOf, identities, targetBindings, committedBindings, nodesAndLinks, AtMost};
 use model::Answer;
 use model::Binding;
@@ -236,7 +237,85 @@ pub fn owners_issued(owner: &[usize; 256], count: usize, issued: usize) -> bool
     true
 }
 
-// Whether this declaration and each of the columns, if both are provisions of one port by present owners, have one owner.
+// The bucket, one of 64, of an owner and a port; 61 spreads keys that are multiples of 64.
+pub fn bucket_of(owner: usize, key: u64, realm: u64) -> usize
+    ensures { λ r. ⌜ (r ≡ bucketOf owner key realm) × (r < 64) ⌝ }
+{
+    let port = (key % 61 + realm % 61 * 7) as usize;
+    (owner % 64 * 5 + port) % 64
+}
+
+// Chains the declarations below the count by the bucket of their port. In a chain c stands for entry c - 1, and 0 for none; each leads to an earlier one.
+pub fn chain_ports(
+    key: &[u64; 256],
+    realm: &[u64; 256],
+    count: usize,
+    first: &mut [usize; 64],
+    next: &mut [usize; 256],
+)
+    requires { ⌜ (count ≤ 256) × (now first ≡ replicate 64 0) × (length (now next) ≡ 256) ⌝ }
+    ensures { λ r. ⌜ Chained (bucketAt [] (now (key .entry)) (now (realm .entry))) 256 count (now (first .exit)) (now (next .exit)) ⌝ }
+{
+    let mut i = 0;
+    while i < count {
+        let k = key[i];
+        let r = realm[i];
+        let b = bucket_of(0, k, r);
+        next[i] = first[b];
+        first[b] = i + 1;
+        i += 1;
+    }
+}
+
+// Chains the declarations below the count by the bucket of their owner and port.
+pub fn chain_declarations(
+    owner: &[usize; 256],
+    key: &[u64; 256],
+    realm: &[u64; 256],
+    count: usize,
+    first: &mut [usize; 64],
+    next: &mut [usize; 256],
+)
+    requires { ⌜ (count ≤ 256) × (now first ≡ replicate 64 0) × (length (now next) ≡ 256) ⌝ }
+    ensures { λ r. ⌜ Chained (bucketAt (now (owner .entry)) (now (key .entry)) (now (realm .entry))) 256 count (now (first .exit)) (now (next .exit)) ⌝ }
+{
+    let mut i = 0;
+    while i < count {
+        let o = owner[i];
+        let k = key[i];
+        let r = realm[i];
+        let b = bucket_of(o, k, r);
+        next[i] = first[b];
+        first[b] = i + 1;
+        i += 1;
+    }
+}
+
+// Chains the live links below the count by the bucket of their consumer and port.
+pub fn chain_links(
+    consumer: &[usize; 512],
+    key: &[u64; 512],
+    realm: &[u64; 512],
+    count: usize,
+    first: &mut [usize; 64],
+    next: &mut [usize; 512],
+)
+    requires { ⌜ (count ≤ 512) × (now first ≡ replicate 64 0) × (length (now next) ≡ 512) ⌝ }
+    ensures { λ r. ⌜ Chained (bucketAt (now (consumer .entry)) (now (key .entry)) (now (realm .entry))) 512 count (now (first .exit)) (now (next .exit)) ⌝ }
+{
+    let mut i = 0;
+    while i < count {
+        let o = consumer[i];
+        let k = key[i];
+        let r = realm[i];
+        let b = bucket_of(o, k, r);
+        next[i] = first[b];
+        first[b] = i + 1;
+        i += 1;
+    }
+}
+
+// Whether this declaration and each of the columns, if both are provisions of one port by present owners, have one owner: only its port's chain is read.
 pub fn one_provider(
     owner: &[usize; 256],
     key: &[u64; 256],
@@ -244,16 +323,23 @@ pub fn one_provider(
     provides: &[bool; 256],
     present: &[bool; 64],
     count: usize,
+    first: &[usize; 64],
+    next: &[usize; 256],
     d: Declaration,
 ) -> bool
+    requires { ⌜ Chained (bucketAt [] (now key) (now realm)) 256 count (now first) (now next) ⌝ }
     ensures { λ r. ⌜ r ≡ all (sameOwner (flag 64 (now (present .entry))) d) (take count (declarationsOf 256 (now (owner .entry)) (now (key .entry)) (now (realm .entry)) (now (provides .entry)))) ⌝ }
 {
-    let end = at_most(count, 256);
     let port = d.port;
     let o = d.owner;
     let here = flag_at(present, o);
-    let mut i = 0;
-    while i < end {
+    if !(d.provides & here) {
+        return true;
+    }
+    let b = bucket_of(0, port.key, port.realm);
+    let mut c = first[b];
+    while 0 < c {
+        let i = c - 1;
         let e = owner[i];
         let also = flag_at(present, e);
         let same = (port.key == key[i]) & (port.realm == realm[i]);
@@ -261,7 +347,7 @@ pub fn one_provider(
         if rivals & (o != e) {
             return false;
         }
-        i += 1;
+        c = next[i];
     }
     true
 }
@@ -278,6 +364,9 @@ pub fn one_owner(
     ensures { λ r. ⌜ r ≡ all (λ d. all (sameOwner (flag 64 (now (present .entry))) d) (take count (declarationsOf 256 (now (owner .entry)) (now (key .entry)) (now (realm .entry)) (now (provides .entry))))) (take count (declarationsOf 256 (now (owner .entry)) (now (key .entry)) (now (realm .entry)) (now (provides .entry)))) ⌝ }
 {
     let end = at_most(count, 256);
+    let mut first = [0usize; 64];
+    let mut next = [0usize; 256];
+    chain_ports(key, realm, end, &mut first, &mut next);
     let mut i = 0;
     while i < end {
         let d = Declaration {
@@ -288,7 +377,7 @@ pub fn one_owner(
             },
             provides: provides[i],
         };
-        if !one_provider(owner, key, realm, provides, present, count, d) {
+        if !one_provider(owner, key, realm, provides, present, end, &first, &next, d) {
             return false;
         }
         i += 1;
@@ -326,27 +415,31 @@ pub fn live_columns(
     n
 }
 
-// Whether the columns have a declaration of this owner and port, a provision or a dependency.
+// Whether the columns have a declaration of this owner and port, a provision or a dependency: only their chain is read.
 pub fn declared(
     owner: &[usize; 256],
     key: &[u64; 256],
     realm: &[u64; 256],
     provides: &[bool; 256],
     count: usize,
+    first: &[usize; 64],
+    next: &[usize; 256],
     o: usize,
     port: Port,
     provision: bool,
 ) -> bool
+    requires { ⌜ Chained (bucketAt (now owner) (now key) (now realm)) 256 count (now first) (now next) ⌝ }
     ensures { λ r. ⌜ r ≡ any (isDeclaration o port provision) (take count (declarationsOf 256 (now (owner .entry)) (now (key .entry)) (now (realm .entry)) (now (provides .entry)))) ⌝ }
 {
-    let end = at_most(count, 256);
-    let mut i = 0;
-    while i < end {
+    let b = bucket_of(o, port.key, port.realm);
+    let mut c = first[b];
+    while 0 < c {
+        let i = c - 1;
         let same = (key[i] == port.key) & (realm[i] == port.realm);
         if (owner[i] == o) & same & (provides[i] == provision) {
             return true;
         }
-        i += 1;
+        c = next[i];
     }
     false
 }
@@ -368,6 +461,10 @@ pub fn links_ok(
 ) -> bool
     ensures { λ r. ⌜ r ≡ all (linkOk (flag 64 (now (installed .entry))) (flag 64 (now (serving .entry))) (take count (declarationsOf 256 (now (owner .entry)) (now (key .entry)) (now (realm .entry)) (now (provides .entry))))) (take live (linksOf 512 (now (consumer .entry)) (now («link_key» .entry)) (now («link_realm» .entry)) (now (provider .entry)))) ⌝ }
 {
+    let size = at_most(count, 256);
+    let mut first = [0usize; 64];
+    let mut next = [0usize; 256];
+    chain_declarations(owner, key, realm, size, &mut first, &mut next);
     let end = at_most(live, 512);
     let mut i = 0;
     while i < end {
@@ -378,8 +475,30 @@ pub fn links_ok(
             realm: link_realm[i],
         };
         let ends = flag_at(installed, c) & flag_at(serving, p);
-        let wanted = declared(owner, key, realm, provides, count, c, port, false);
-        let offered = declared(owner, key, realm, provides, count, p, port, true);
+        let wanted = declared(
+            owner,
+            key,
+            realm,
+            provides,
+            size,
+            &first,
+            &next,
+            c,
+            port,
+            false,
+        );
+        let offered = declared(
+            owner,
+            key,
+            realm,
+            provides,
+            size,
+            &first,
+            &next,
+            p,
+            port,
+            true,
+        );
         if !(ends & wanted & offered) {
             return false;
         }
@@ -408,25 +527,29 @@ pub fn links_ordered(consumer: &[usize; 512], provider: &[usize; 512], live: usi
     true
 }
 
-// Whether the columns have a live link of this consumer and port.
+// Whether the columns have a live link of this consumer and port: only their chain is read.
 pub fn linked(
     consumer: &[usize; 512],
     key: &[u64; 512],
     realm: &[u64; 512],
     live: usize,
+    first: &[usize; 64],
+    next: &[usize; 512],
     o: usize,
     port: Port,
 ) -> bool
+    requires { ⌜ Chained (bucketAt (now consumer) (now key) (now realm)) 512 live (now first) (now next) ⌝ }
     ensures { λ r. ⌜ ((provider : List ℕ) → r ≡ any (linksTo o port) (take live (linksOf 512 (now (consumer .entry)) (now (key .entry)) (now (realm .entry)) provider))) ⌝ }
 {
-    let end = at_most(live, 512);
-    let mut i = 0;
-    while i < end {
+    let b = bucket_of(o, port.key, port.realm);
+    let mut c = first[b];
+    while 0 < c {
+        let i = c - 1;
         let same = (key[i] == port.key) & (realm[i] == port.realm);
         if (consumer[i] == o) & same {
             return true;
         }
-        i += 1;
+        c = next[i];
     }
     false
 }
@@ -446,6 +569,10 @@ pub fn covered(
 ) -> bool
     ensures { λ r. ⌜ ((provider : List ℕ) → r ≡ all (isCovered (flag 64 (now (installed .entry))) (take live (linksOf 512 (now (consumer .entry)) (now («link_key» .entry)) (now («link_realm» .entry)) provider))) (take count (declarationsOf 256 (now (owner .entry)) (now (key .entry)) (now (realm .entry)) (now (provides .entry))))) ⌝ }
 {
+    let size = at_most(live, 512);
+    let mut first = [0usize; 64];
+    let mut next = [0usize; 512];
+    chain_links(consumer, link_key, link_realm, size, &mut first, &mut next);
     let end = at_most(count, 256);
     let mut i = 0;
     while i < end {
@@ -456,7 +583,7 @@ pub fn covered(
                 key: key[i],
                 realm: realm[i],
             };
-            if !linked(consumer, link_key, link_realm, live, o, port) {
+            if !linked(consumer, link_key, link_realm, size, &first, &next, o, port) {
                 return false;
             }
         }

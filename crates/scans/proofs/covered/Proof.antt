@@ -14,7 +14,7 @@ use Rattle.model.specs.Lists.{all}
 use Rattle.model.specs.Soundness.{isCovered}
 use Rattle.scans.proofs.Laws.Columns.{rows-most, rows-next}
 use Rattle.scans.proofs.Laws.Scan.{all-done, all-hit, all-next, part-done}
-use Rattle.scans.specs.Columns.{declarationAt, declarationsOf, flag, linksOf}
+use Rattle.scans.specs.Columns.{declarationAt, declarationsOf, flag, linkAt, linksOf}
 use Rattle.scans.proofs.covered.Statement.{statement}
 use Rattle.scans.proofs.covered.Tie as tie
 
@@ -23,19 +23,25 @@ abbrev test : List Bool → ℕ → List ℕ → List ℕ → List ℕ → List 
 test installed live consumer key realm provider = isCovered (flag 64 installed) (take live (linksOf 512 consumer key realm provider))
 
 abbrev Inv-loop : tie.InvT-loop
-Inv-loop owner key realm provides count installed consumer link-key link-realm live end i₀ i = (provider : List ℕ) → all (test installed live consumer link-key link-realm provider) (slice i end (declarationsOf 256 owner key realm provides)) ≡ all (test installed live consumer link-key link-realm provider) (take count (declarationsOf 256 owner key realm provides))
+Inv-loop owner key realm provides count installed consumer link-key link-realm live size first next end i₀ i = (provider : List ℕ) → all (test installed live consumer link-key link-realm provider) (slice i end (declarationsOf 256 owner key realm provides)) ≡ all (test installed live consumer link-key link-realm provider) (take count (declarationsOf 256 owner key realm provides))
 
 abbrev μ-loop : tie.MeasureT-loop
-μ-loop owner key realm provides count installed consumer link-key link-realm live end i₀ i = end - i
+μ-loop owner key realm provides count installed consumer link-key link-realm live size first next end i₀ i = end - i
 
 at-most-requires : tie.Need-at-most-requires Inv-loop μ-loop
 at-most-requires c κs = search needs
 
+chain-links-requires : tie.Need-chain-links-requires Inv-loop μ-loop
+chain-links-requires c κs = search needs
+
+at-most-requires-2 : tie.Need-at-most-requires-2 Inv-loop μ-loop
+at-most-requires-2 c κs = search needs
+
 loop-holds : tie.Need-loop-holds Inv-loop μ-loop
 unfolding declarationsOf linksOf
 loop-holds c =
-    let a = c .before .args in
-    λ provider. ap (all (test (a .installed .now) (a .live) (a .consumer .now) (a .link-key .now) (a .link-realm .now) provider)) (rows-most (a .count) 256 _ (declarationAt (a .owner .now) (a .key .now) (a .realm .now) (a .provides .now)) (c .at-most .ensures))
+    let a = c .before .before .before .before .before .args in
+    λ provider. ap (all (test (a .installed .now) (a .live) (a .consumer .now) (a .link-key .now) (a .link-realm .now) provider)) (rows-most (a .count) 256 _ (declarationAt (a .owner .now) (a .key .now) (a .realm .now) (a .provides .now)) (c .at-most2 .ensures))
 
 mul-o : tie.Need-mul-o Inv-loop μ-loop
 mul-o c = omega arith
@@ -49,29 +55,29 @@ flag-at-requires c κs = search needs
 element-copy-out-if1 : tie.Need-element-copy-out-if1 Inv-loop μ-loop
 element-copy-out-if1 c = omega arith
 
-mul-t25 : tie.Need-mul-t25 Inv-loop μ-loop
-mul-t25 c = omega arith
+mul-t31 : tie.Need-mul-t31 Inv-loop μ-loop
+mul-t31 c = omega arith
 
-element-copy-out-t28 : tie.Need-element-copy-out-t28 Inv-loop μ-loop
-element-copy-out-t28 c = omega arith
+element-copy-out-t34 : tie.Need-element-copy-out-t34 Inv-loop μ-loop
+element-copy-out-t34 c = omega arith
 
-mul-t29 : tie.Need-mul-t29 Inv-loop μ-loop
-mul-t29 c = omega arith
+mul-t35 : tie.Need-mul-t35 Inv-loop μ-loop
+mul-t35 c = omega arith
 
-element-copy-out-t32 : tie.Need-element-copy-out-t32 Inv-loop μ-loop
-element-copy-out-t32 c = omega arith
+element-copy-out-t38 : tie.Need-element-copy-out-t38 Inv-loop μ-loop
+element-copy-out-t38 c = omega arith
 
 linked-requires : tie.Need-linked-requires Inv-loop μ-loop
-linked-requires c κs = search needs
+linked-requires c κs = c .before .before .before .before .before .before .before .before .before .before .before .chain-links .ensures
 
 returns : tie.Need-returns Inv-loop μ-loop
 unfolding isCovered declarationsOf linksOf
 returns c =
-    let s = c .before .before .before .before .before .before .before .before .before in
-    let a = s .before .before .args in
-    let need = c .before .before .before .before .if1 .taken in
+    let s = c .before .before .before .before .before .before .before .before .before .before .before in
+    let a = s .before .before .before .before .before .before .args in
+    let need = c .before .before .before .before .before .before .if1 .taken in
     let unlinked = not-true (c .before .linked .result) (c .if2 .taken) in
-    λ provider. all-hit (test (a .installed .now) (a .live) (a .consumer .now) (a .link-key .now) (a .link-realm .now) provider) _ _ _ _ (rows-next 256 (s .loop .i) (s .before .at-most .result) (declarationAt (a .owner .now) (a .key .now) (a .realm .now) (a .provides .now)) (omega arith) (omega arith)) (s .loop .inv provider) (rw (← (c .before .before .before .before .before .before .flag-at .ensures), need, ← (c .before .linked .ensures provider), unlinked))
+    λ provider. all-hit (test (a .installed .now) (a .live) (a .consumer .now) (a .link-key .now) (a .link-realm .now) provider) _ _ _ _ (rows-next 256 (s .loop .i) (s .before .at-most2 .result) (declarationAt (a .owner .now) (a .key .now) (a .realm .now) (a .provides .now)) (c .before .before .before .before .before .before .before .before .before .before .loop-test .taken) (s .before .at-most2 .ensures .within)) (s .loop .inv provider) (rw (← (c .before .before .before .before .before .before .before .before .flag-at .ensures), need, ← (rows-most (a .live) 512 _ (linkAt (a .consumer .now) (a .link-key .now) (a .link-realm .now) provider) (s .before .before .before .before .before .at-most .ensures)), ← (c .before .linked .ensures provider), unlinked))
 
 add-i : tie.Need-add-i Inv-loop μ-loop
 add-i c = omega arith
@@ -83,14 +89,14 @@ loop-again : tie.Need-loop-again Inv-loop μ-loop
 unfolding isCovered declarationsOf linksOf
 loop-again c =
     let s = c .before .before .before .before .before in
-    let a = s .before .before .args in
+    let a = s .before .before .before .before .before .before .args in
     let flagged = c .before .before .flag-at .ensures in
-    λ provider. all-next (test (a .installed .now) (a .live) (a .consumer .now) (a .link-key .now) (a .link-realm .now) provider) _ _ _ _ (rows-next 256 (s .loop .i) (s .before .at-most .result) (declarationAt (a .owner .now) (a .key .now) (a .realm .now) (a .provides .now)) (omega arith) (omega arith)) (s .loop .inv provider) (⊎-elim (λ w. rw (← flagged, w .0 .taken, ← (w .3 .ensures provider), not-false (w .3 .result) (w .4 .left))) (λ w. rw (← flagged, w .left)) (c .if1 .came))
+    λ provider. all-next (test (a .installed .now) (a .live) (a .consumer .now) (a .link-key .now) (a .link-realm .now) provider) _ _ _ _ (rows-next 256 (s .loop .i) (s .before .at-most2 .result) (declarationAt (a .owner .now) (a .key .now) (a .realm .now) (a .provides .now)) (omega arith) (omega arith)) (s .loop .inv provider) (⊎-elim (λ w. rw (← flagged, w .0 .taken, ← (rows-most (a .live) 512 _ (linkAt (a .consumer .now) (a .link-key .now) (a .link-realm .now) provider) (s .before .before .before .before .before .at-most .ensures)), ← (w .5 .ensures provider), not-false (w .5 .result) (w .6 .left))) (λ w. rw (← flagged, w .left)) (c .if1 .came))
 
 returns-2 : tie.Need-returns-2 Inv-loop μ-loop
 returns-2 c =
-    let a = c .before .before .before .args in
-    λ provider. all-done (test (a .installed .now) (a .live) (a .consumer .now) (a .link-key .now) (a .link-realm .now) provider) _ _ (part-done (c .before .loop .i) (c .before .before .at-most .result) (declarationsOf 256 (a .owner .now) (a .key .now) (a .realm .now) (a .provides .now)) (c .loop-test .left)) (c .before .loop .inv provider)
+    let a = c .before .before .before .before .before .before .before .args in
+    λ provider. all-done (test (a .installed .now) (a .live) (a .consumer .now) (a .link-key .now) (a .link-realm .now) provider) _ _ (part-done (c .before .loop .i) (c .before .before .at-most2 .result) (declarationsOf 256 (a .owner .now) (a .key .now) (a .realm .now) (a .provides .now)) (c .loop-test .left)) (c .before .loop .inv provider)
 
 pub covered-spec : {M : Type 1} → statement M
 covered-spec =
@@ -99,15 +105,17 @@ covered-spec =
     Inv-loop
     μ-loop
     at-most-requires
+    chain-links-requires
+    at-most-requires-2
     loop-holds
     mul-o
     element-copy-out-o
     flag-at-requires
     element-copy-out-if1
-    mul-t25
-    element-copy-out-t28
-    mul-t29
-    element-copy-out-t32
+    mul-t31
+    element-copy-out-t34
+    mul-t35
+    element-copy-out-t38
     linked-requires
     returns
     add-i

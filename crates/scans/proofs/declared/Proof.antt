@@ -1,33 +1,41 @@
--- `scans::declared` meets its contract. What is left of the columns answers as the whole does.
-use mathlib.Core.Path.{_≡_, ap}
-use Prim.Native.Nat.{_-_}
+-- `scans::declared` meets its contract. What is left of the chain answers as the columns do.
+use mathlib.Core.Path.{_∙_, sym}
 use native.Mathlib.Omega.{arith}
 use lib.ListN.{take}
-use lib.Seq.{slice}
 use borrow.Author.Needs.{needs}
 use Rattle.model.specs.Lists.{any}
 use Rattle.model.specs.Soundness.{isDeclaration}
-use Rattle.scans.proofs.Laws.Columns.{rows-most, rows-next}
-use Rattle.scans.proofs.Laws.Scan.{any-done, any-hit, any-next, part-done}
-use Rattle.scans.specs.Columns.{declarationAt, declarationsOf, linksOf}
+use Rattle.scans.specs.Columns.{declarationAt, declarationsOf}
+use Rattle.scans.proofs.Laws.Chains.{Walk, only-declaration, walk-done, walk-from, walk-hit, walk-less, walk-next}
+use Rattle.scans.specs.Chains.{bucketAt}
 use Rattle.scans.proofs.declared.Statement.{statement}
 use Rattle.scans.proofs.declared.Tie as tie
 
 abbrev Inv-loop : tie.InvT-loop
-Inv-loop owner key realm provides count o port provision end i₀ i =
-    any (isDeclaration o port provision) (slice i end (declarationsOf 256 owner key realm provides)) ≡ any (isDeclaration o port provision) (take count (declarationsOf 256 owner key realm provides))
+Inv-loop owner key realm provides count first next o port provision b c₀ c =
+    Walk (bucketAt owner key realm) 256 b next (declarationAt owner key realm provides) (isDeclaration o port provision) (any (isDeclaration o port provision) (take count (declarationsOf 256 owner key realm provides))) c
 
 abbrev μ-loop : tie.MeasureT-loop
-μ-loop owner key realm provides count o port provision end i₀ i = end - i
+μ-loop owner key realm provides count first next o port provision b c₀ c = c
 
-at-most-requires : tie.Need-at-most-requires Inv-loop μ-loop
-at-most-requires c κs = search needs
+bucket-of-requires : tie.Need-bucket-of-requires Inv-loop μ-loop
+bucket-of-requires c κs = search needs
+
+mul-c : tie.Need-mul-c Inv-loop μ-loop
+mul-c c = omega arith
+
+element-copy-out-c : tie.Need-element-copy-out-c Inv-loop μ-loop
+element-copy-out-c c = omega arith
 
 loop-holds : tie.Need-loop-holds Inv-loop μ-loop
-unfolding declarationsOf linksOf
+unfolding declarationsOf
 loop-holds c =
-    let a = c .before .args in
-    ap (any (isDeclaration (a .o) (a .port) (a .provision))) (rows-most (a .count) 256 _ (declarationAt (a .owner .now) (a .key .now) (a .realm .now) (a .provides .now)) (c .at-most .ensures))
+    let a = c .before .before .args in
+    let b = c .before .bucket-of in
+    walk-from _ 256 (b .result) (a .next .now) _ _ (a .count) (a .first .now) (b .ensures .1) (c .before .before .pre) (λ k t. only-declaration (a .o) (a .port) (a .provision) _ t ∙ sym (b .ensures .0))
+
+sub-i : tie.Need-sub-i Inv-loop μ-loop
+sub-i c = omega arith
 
 mul-same : tie.Need-mul-same Inv-loop μ-loop
 mul-same c = omega arith
@@ -51,29 +59,30 @@ element-copy-out-if1-2 : tie.Need-element-copy-out-if1-2 Inv-loop μ-loop
 element-copy-out-if1-2 c = omega arith
 
 returns : tie.Need-returns Inv-loop μ-loop
-unfolding isDeclaration declarationsOf linksOf
+unfolding isDeclaration
 returns c =
-    let a = c .before .before .before .before .before .before .before .before .before .before .args in
     let j = c .before .before .before .before .before .before .before .before .loop in
-    any-hit (isDeclaration (a .o) (a .port) (a .provision)) _ _ _ _ (rows-next 256 (j .i) (c .before .before .before .before .before .before .before .before .before .at-most .result) (declarationAt (a .owner .now) (a .key .now) (a .realm .now) (a .provides .now)) (omega arith) (omega arith)) (j .inv) (c .if1 .taken)
+    walk-hit _ 256 _ _ _ _ _ (j .c) (j .inv) (omega arith) (c .if1 .taken)
 
-add-i : tie.Need-add-i Inv-loop μ-loop
-add-i c = omega arith
+mul-c-2 : tie.Need-mul-c-2 Inv-loop μ-loop
+mul-c-2 c = omega arith
+
+element-copy-out-c-2 : tie.Need-element-copy-out-c-2 Inv-loop μ-loop
+element-copy-out-c-2 c = omega arith
 
 loop-less : tie.Need-loop-less Inv-loop μ-loop
-loop-less c = omega arith
+loop-less c =
+    let j = c .before .before .before .before .before .before .before .before .before .loop in
+    walk-less _ 256 _ _ _ _ _ (j .c) (j .inv) (omega arith)
 
 loop-again : tie.Need-loop-again Inv-loop μ-loop
-unfolding isDeclaration declarationsOf linksOf
+unfolding isDeclaration
 loop-again c =
-    let a = c .before .before .before .before .before .before .before .before .before .before .args in
-    let j = c .before .before .before .before .before .before .before .before .loop in
-    any-next (isDeclaration (a .o) (a .port) (a .provision)) _ _ _ _ (rows-next 256 (j .i) (c .before .before .before .before .before .before .before .before .before .at-most .result) (declarationAt (a .owner .now) (a .key .now) (a .realm .now) (a .provides .now)) (omega arith) (omega arith)) (j .inv) (c .if1 .left)
+    let j = c .before .before .before .before .before .before .before .before .before .loop in
+    walk-next _ 256 _ _ _ _ _ (j .c) (j .inv) (omega arith) (c .before .if1 .left)
 
 returns-2 : tie.Need-returns-2 Inv-loop μ-loop
-returns-2 c =
-    let a = c .before .before .before .args in
-    any-done (isDeclaration (a .o) (a .port) (a .provision)) _ _ (part-done (c .before .loop .i) (c .before .before .at-most .result) (declarationsOf 256 (a .owner .now) (a .key .now) (a .realm .now) (a .provides .now)) (c .loop-test .left)) (c .before .loop .inv)
+returns-2 c = walk-done _ 256 _ _ _ _ _ (c .before .loop .c) (c .before .loop .inv) (c .loop-test .left)
 
 pub declared-spec : {M : Type 1} → statement M
 declared-spec =
@@ -81,8 +90,11 @@ declared-spec =
     (tie.spec
     Inv-loop
     μ-loop
-    at-most-requires
+    bucket-of-requires
+    mul-c
+    element-copy-out-c
     loop-holds
+    sub-i
     mul-same
     element-copy-out-same
     mul-same-2
@@ -91,7 +103,8 @@ declared-spec =
     element-copy-out-if1
     element-copy-out-if1-2
     returns
-    add-i
+    mul-c-2
+    element-copy-out-c-2
     loop-less
     loop-again
     returns-2)

@@ -1,39 +1,58 @@
--- `scans::one_provider` meets its contract. What is left of the columns answers as the whole does.
-use mathlib.Core.Path.{_≡_, ap}
-use mathlib.Core.Bool.{false, true}
+-- `scans::one_provider` meets its contract. What is left of the chain answers as the columns do.
+use mathlib.Core.Path.{_∙_, _≡_, ap, sym}
+use mathlib.Core.Bool.{_&&_, false, not, true}
+use mathlib.Core.List.{[]}
 use Prim.Native.Nat.{_-_}
 use native.Mathlib.Omega.{arith}
 use lib.ListN.{take}
-use lib.Seq.{slice}
 use borrow.Author.Needs.{needs}
-use Rattle.model.specs.Lists.{all, conj}
+use borrow.Author.Tests.{not-true}
+use Rattle.model.specs.Lists.{any, conj}
 use Rattle.model.specs.Soundness.{rivalTests, sameOwner}
-use Rattle.scans.proofs.Laws.Columns.{rows-most, rows-next}
+use Rattle.scans.proofs.Laws.Chains.{Walk, isRival, no-rival, not-offered, only-rival, walk-done, walk-from, walk-hit, walk-less, walk-next}
 use Rattle.scans.proofs.Laws.Implications.{imp-broken, imp-kept}
-use Rattle.scans.proofs.Laws.Scan.{all-done, all-hit, all-next, part-done}
-use Rattle.scans.specs.Columns.{declarationAt, declarationsOf, flag, linksOf}
+use Rattle.scans.specs.Chains.{bucketAt}
+use Rattle.scans.specs.Columns.{declarationAt, declarationsOf, flag}
 use Rattle.scans.proofs.one_provider.Statement.{statement}
 use Rattle.scans.proofs.one_provider.Tie as tie
 
 abbrev Inv-loop : tie.InvT-loop
-Inv-loop owner key realm provides present count d end port o here i₀ i =
-    let ds = declarationsOf 256 owner key realm provides in
-    all (sameOwner (flag 64 present) d) (slice i end ds) ≡ all (sameOwner (flag 64 present) d) (take count ds)
+Inv-loop owner key realm provides present count first next d port o here b c₀ c =
+    let rival = isRival (flag 64 present) d in
+    Walk (bucketAt [] key realm) 256 b next (declarationAt owner key realm provides) rival (any rival (take count (declarationsOf 256 owner key realm provides))) c
 
 abbrev μ-loop : tie.MeasureT-loop
-μ-loop owner key realm provides present count d end port o here i₀ i = end - i
-
-at-most-requires : tie.Need-at-most-requires Inv-loop μ-loop
-at-most-requires c κs = search needs
+μ-loop owner key realm provides present count first next d port o here b c₀ c = c
 
 flag-at-requires : tie.Need-flag-at-requires Inv-loop μ-loop
 flag-at-requires c κs = search needs
 
+returns : tie.Need-returns Inv-loop μ-loop
+returns c =
+    let a = c .before .before .before .before .args in
+    let here = flag 64 (a .present .now) in
+    let f : c .before .before .flag-at .result ≡ here (a .d .owner) = c .before .before .flag-at .ensures in
+    sym (not-offered here (a .d) (take (a .count) (declarationsOf 256 (a .owner .now) (a .key .now) (a .realm .now) (a .provides .now))) (rw f at (not-true (a .d .provides && c .before .before .flag-at .result) (c .if1 .taken))))
+
+bucket-of-requires : tie.Need-bucket-of-requires Inv-loop μ-loop
+bucket-of-requires c κs = search needs
+
+mul-c : tie.Need-mul-c Inv-loop μ-loop
+mul-c c = omega arith
+
+element-copy-out-c : tie.Need-element-copy-out-c Inv-loop μ-loop
+element-copy-out-c c = omega arith
+
 loop-holds : tie.Need-loop-holds Inv-loop μ-loop
-unfolding declarationsOf linksOf
+unfolding declarationsOf
 loop-holds c =
-    let a = c .before .before .before .args in
-    ap (all (sameOwner (flag 64 (a .present .now)) (a .d))) (rows-most (a .count) 256 _ (declarationAt (a .owner .now) (a .key .now) (a .realm .now) (a .provides .now)) (c .before .before .at-most .ensures))
+    let s = c .before in
+    let a = s .before .before .before .before .before .args in
+    let b = s .bucket-of in
+    walk-from _ 256 (b .result) (a .next .now) _ _ (a .count) (a .first .now) (b .ensures .1) (s .before .before .before .before .before .pre) (λ k t. only-rival _ (a .d) _ t ∙ sym (b .ensures .0))
+
+sub-i : tie.Need-sub-i Inv-loop μ-loop
+sub-i c = omega arith
 
 mul-e : tie.Need-mul-e Inv-loop μ-loop
 mul-e c = omega arith
@@ -59,40 +78,47 @@ element-copy-out-same-2 c = omega arith
 element-copy-out-rivals : tie.Need-element-copy-out-rivals Inv-loop μ-loop
 element-copy-out-rivals c = omega arith
 
-returns : tie.Need-returns Inv-loop μ-loop
-unfolding sameOwner declarationsOf linksOf
-returns c =
-    let a = c .before .before .before .before .before .before .before .before .before .before .before .before .before .before .args in
-    let j = c .before .before .before .before .before .before .before .before .before .before .loop in
+returns-2 : tie.Need-returns-2 Inv-loop μ-loop
+unfolding sameOwner
+returns-2 c =
+    let s = c .before .before .before .before .before .before .before .before .before .before in
+    let a = s .before .before .before .before .before .before .before .args in
+    let j = s .loop in
     let here = flag 64 (a .present .now) in
     let row = declarationAt (a .owner .now) (a .key .now) (a .realm .now) (a .provides .now) in
-    let f : c .before .before .before .before .before .before .before .before .before .before .before .flag-at .result ≡ here (a .d .owner) = c .before .before .before .before .before .before .before .before .before .before .before .flag-at .ensures in
-    let g : c .before .before .before .before .before .before .before .flag-at2 .result ≡ here (row (j .i) .owner) = c .before .before .before .before .before .before .before .flag-at2 .ensures in
-    let e : sameOwner here (a .d) (row (j .i)) ≡ false = imp-broken (conj (rivalTests here (a .d) (row (j .i)))) _ (rw (f, g) at (c .if1 .taken)) in
-    all-hit (sameOwner here (a .d)) _ _ _ _ (rows-next 256 (j .i) (c .before .before .before .before .before .before .before .before .before .before .before .before .before .at-most .result) row (omega arith) (omega arith)) (j .inv) e
+    let f : s .before .before .before .before .before .flag-at .result ≡ here (a .d .owner) = s .before .before .before .before .before .flag-at .ensures in
+    let g : c .before .before .before .before .before .before .before .flag-at2 .result ≡ here (row (j .c - 1) .owner) = c .before .before .before .before .before .before .before .flag-at2 .ensures in
+    let e : sameOwner here (a .d) (row (j .c - 1)) ≡ false = imp-broken (conj (rivalTests here (a .d) (row (j .c - 1)))) _ (rw (f, g) at (c .if2 .taken)) in
+    ap not (walk-hit _ 256 _ _ row (isRival here (a .d)) _ (j .c) (j .inv) (omega arith) (ap not e)) ∙ no-rival here (a .d) _
 
-add-i : tie.Need-add-i Inv-loop μ-loop
-add-i c = omega arith
+mul-c-2 : tie.Need-mul-c-2 Inv-loop μ-loop
+mul-c-2 c = omega arith
+
+element-copy-out-c-2 : tie.Need-element-copy-out-c-2 Inv-loop μ-loop
+element-copy-out-c-2 c = omega arith
 
 loop-less : tie.Need-loop-less Inv-loop μ-loop
-loop-less c = omega arith
+loop-less c =
+    let j = c .before .before .before .before .before .before .before .before .before .before .before .loop in
+    walk-less _ 256 _ _ _ _ _ (j .c) (j .inv) (omega arith)
 
 loop-again : tie.Need-loop-again Inv-loop μ-loop
-unfolding sameOwner declarationsOf linksOf
+unfolding sameOwner
 loop-again c =
-    let a = c .before .before .before .before .before .before .before .before .before .before .before .before .before .before .args in
-    let j = c .before .before .before .before .before .before .before .before .before .before .loop in
+    let s = c .before .before .before .before .before .before .before .before .before .before .before in
+    let a = s .before .before .before .before .before .before .before .args in
+    let j = s .loop in
     let here = flag 64 (a .present .now) in
     let row = declarationAt (a .owner .now) (a .key .now) (a .realm .now) (a .provides .now) in
-    let f : c .before .before .before .before .before .before .before .before .before .before .before .flag-at .result ≡ here (a .d .owner) = c .before .before .before .before .before .before .before .before .before .before .before .flag-at .ensures in
-    let g : c .before .before .before .before .before .before .before .flag-at2 .result ≡ here (row (j .i) .owner) = c .before .before .before .before .before .before .before .flag-at2 .ensures in
-    let e : sameOwner here (a .d) (row (j .i)) ≡ true = imp-kept (conj (rivalTests here (a .d) (row (j .i)))) _ (rw (f, g) at (c .if1 .left)) in
-    all-next (sameOwner here (a .d)) _ _ _ _ (rows-next 256 (j .i) (c .before .before .before .before .before .before .before .before .before .before .before .before .before .at-most .result) row (omega arith) (omega arith)) (j .inv) e
+    let f : s .before .before .before .before .before .flag-at .result ≡ here (a .d .owner) = s .before .before .before .before .before .flag-at .ensures in
+    let g : c .before .before .before .before .before .before .before .before .flag-at2 .result ≡ here (row (j .c - 1) .owner) = c .before .before .before .before .before .before .before .before .flag-at2 .ensures in
+    let e : sameOwner here (a .d) (row (j .c - 1)) ≡ true = imp-kept (conj (rivalTests here (a .d) (row (j .c - 1)))) _ (rw (f, g) at (c .before .if2 .left)) in
+    walk-next _ 256 _ _ row (isRival here (a .d)) _ (j .c) (j .inv) (omega arith) (ap not e)
 
-returns-2 : tie.Need-returns-2 Inv-loop μ-loop
-returns-2 c =
-    let a = c .before .before .before .before .before .args in
-    all-done (sameOwner (flag 64 (a .present .now)) (a .d)) _ _ (part-done (c .before .loop .i) (c .before .before .before .before .at-most .result) (declarationsOf 256 (a .owner .now) (a .key .now) (a .realm .now) (a .provides .now)) (c .loop-test .left)) (c .before .loop .inv)
+returns-3 : tie.Need-returns-3 Inv-loop μ-loop
+returns-3 c =
+    let a = c .before .before .before .before .before .before .before .before .args in
+    ap not (walk-done _ 256 _ _ _ _ _ (c .before .loop .c) (c .before .loop .inv) (c .loop-test .left)) ∙ no-rival (flag 64 (a .present .now)) (a .d) _
 
 pub one-provider-spec : {M : Type 1} → statement M
 one-provider-spec =
@@ -100,9 +126,13 @@ one-provider-spec =
     (tie.spec
     Inv-loop
     μ-loop
-    at-most-requires
     flag-at-requires
+    returns
+    bucket-of-requires
+    mul-c
+    element-copy-out-c
     loop-holds
+    sub-i
     mul-e
     element-copy-out-e
     flag-at-requires-2
@@ -111,8 +141,9 @@ one-provider-spec =
     mul-same-2
     element-copy-out-same-2
     element-copy-out-rivals
-    returns
-    add-i
+    returns-2
+    mul-c-2
+    element-copy-out-c-2
     loop-less
     loop-again
-    returns-2)
+    returns-3)
