@@ -37,38 +37,37 @@ impl Kernel {
             return false;
         }
         let nodes = self.nodes;
-        if !(scans::nodes_blank(nodes, n) & scans::nodes_ok(nodes, n)) {
-            return false;
-        }
-        let declarations = self.declarations;
-        let links = self.links;
-        if !(scans::declarations_blank(declarations, d) & scans::links_blank(links, l)) {
+        if !scans::nodes_ok(nodes, n) {
             return false;
         }
         let flags = scans::node_flags(nodes);
         let present = flags.present;
         let installed = flags.installed;
         let serving = flags.serving;
+        let declarations = self.declarations;
         let mut owner = [0usize; 256];
         let mut key = [0u64; 256];
         let mut realm = [0u64; 256];
         let mut provides = [false; 256];
-        scans::declaration_columns(
+        let blank = scans::declaration_columns(
             declarations,
+            d,
             &mut owner,
             &mut key,
             &mut realm,
             &mut provides,
         );
-        if !(scans::owners_issued(&owner, d, n)
+        if !(blank
+            & scans::owners_issued(&owner, d, n)
             & scans::one_owner(&owner, &key, &realm, &provides, &present, d)) {
             return false;
         }
+        let links = self.links;
         let mut consumer = [0usize; 512];
         let mut link_key = [0u64; 512];
         let mut link_realm = [0u64; 512];
         let mut provider = [0usize; 512];
-        let live = scans::live_columns(
+        let found = scans::live_columns(
             links,
             l,
             &mut consumer,
@@ -76,6 +75,10 @@ impl Kernel {
             &mut link_realm,
             &mut provider,
         );
+        let live = found.count;
+        if !found.blank {
+            return false;
+        }
         if !scans::links_ok(
             &owner,
             &key,

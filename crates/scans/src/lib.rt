@@ -34,6 +34,12 @@ pub struct NodeFlags {
     pub providing: [bool; 64],
 }
 
+// How many links are live, and whether those past the count are blank.
+pub struct LiveLinks {
+    pub count: usize,
+    pub blank: bool,
+}
+
 // Identities in order, and how many; 0 past the count.
 pub struct Identities {
     pub ids: [usize; 64],
@@ -67,57 +73,9 @@ pub fn flag_at(flags: &[bool; 64], id: usize) -> bool
     if id < 64 { flags[id] } else { false }
 }
 
-// Whether the nodes from a place on are blank.
-pub fn nodes_blank(nodes: [Node; 64], from: usize) -> bool
-    ensures { λ r. ⌜ r ≡ all isBlankNode (drop from nodes) ⌝ }
-{
-    let mut i = from;
-    while i < 64 {
-        let node = nodes[i];
-        let blank = model::is_blank_node(node);
-        if !blank {
-            return false;
-        }
-        i += 1;
-    }
-    true
-}
-
-// Whether the declarations from a place on are blank.
-pub fn declarations_blank(declarations: [Declaration; 256], from: usize) -> bool
-    ensures { λ r. ⌜ r ≡ all isBlankDeclaration (drop from declarations) ⌝ }
-{
-    let mut i = from;
-    while i < 256 {
-        let d = declarations[i];
-        let blank = model::is_blank_declaration(d);
-        if !blank {
-            return false;
-        }
-        i += 1;
-    }
-    true
-}
-
-// Whether the links from a place on are blank.
-pub fn links_blank(links: [Link; 512], from: usize) -> bool
-    ensures { λ r. ⌜ r ≡ all isBlankLink (drop from links) ⌝ }
-{
-    let mut i = from;
-    while i < 512 {
-        let l = links[i];
-        let blank = model::is_blank_link(l);
-        if !blank {
-            return false;
-        }
-        i += 1;
-    }
-    true
-}
-
-// Whether each node below the count is consistent, and a present one's parent present and smaller.
+// Whether each node below the count is consistent, and a present one's parent present and smaller, and the nodes past it are blank.
 pub fn nodes_ok(nodes: [Node; 64], count: usize) -> bool
-    ensures { λ r. ⌜ r ≡ allAt (nodeOk (take count nodes)) 0 (take count nodes) ⌝ }
+    ensures { λ r. ⌜ r ≡ allAt (nodeOk (take count nodes)) 0 (take count nodes) && all isBlankNode (drop count nodes) ⌝ }
 {
     let end = at_most(count, 64);
     let mut i = 0;
@@ -137,6 +95,13 @@ pub fn nodes_ok(nodes: [Node; 64], count: usize) -> bool
                     return false;
                 }
             }
+        }
+        i += 1;
+    }
+    while i < 64 {
+        let node = nodes[i];
+        if !model::is_blank_node(node) {
+            return false;
         }
         i += 1;
     }
@@ -199,19 +164,21 @@ pub fn places_of(flags: [bool; 64]) -> Identities
     Identities { ids: ids, count: n }
 }
 
-// Writes the declarations into columns.
+// Writes the declarations below the count into columns, and tells whether those past it are blank.
 pub fn declaration_columns(
     declarations: [Declaration; 256],
+    count: usize,
     owner: &mut [usize; 256],
     key: &mut [u64; 256],
     realm: &mut [u64; 256],
     provides: &mut [bool; 256],
-)
+) -> bool
     requires { ⌜ (length (now owner) ≡ 256) × (length (now key) ≡ 256) × (length (now realm) ≡ 256) × (length (now provides) ≡ 256) ⌝ }
-    ensures { λ r. ⌜ declarationsOf 256 (now (owner .exit)) (now (key .exit)) (now (realm .exit)) (now (provides .exit)) ≡ declarations ⌝ }
+    ensures { λ r. ⌜ (take count (declarationsOf 256 (now (owner .exit)) (now (key .exit)) (now (realm .exit)) (now (provides .exit))) ≡ take count declarations) × (r ≡ all isBlankDeclaration (drop count declarations)) ⌝ }
 {
+    let end = at_most(count, 256);
     let mut i = 0;
-    while i < 256 {
+    while i < end {
         let d = declarations[i];
         let p = d.port;
         owner[i] = d.owner;
@@ -220,6 +187,14 @@ pub fn declaration_columns(
         provides[i] = d.provides;
         i += 1;
     }
+    while i < 256 {
+        let d = declarations[i];
+        if !model::is_blank_declaration(d) {
+            return false;
+        }
+        i += 1;
+    }
+    true
 }
 
 // Whether each owner below the count is an issued identity.
@@ -385,7 +360,7 @@ pub fn one_owner(
     true
 }
 
-// Writes the live links below the count into columns, in order, and tells how many there are.
+// Writes the live links below the count into columns, in order, and tells how many there are and whether the links past the count are blank.
 pub fn live_columns(
     links: [Link; 512],
     count: usize,
@@ -393,9 +368,9 @@ pub fn live_columns(
     key: &mut [u64; 512],
     realm: &mut [u64; 512],
     provider: &mut [usize; 512],
-) -> usize
+) -> LiveLinks
     requires { ⌜ (length (now consumer) ≡ 512) × (length (now key) ≡ 512) × (length (now realm) ≡ 512) × (length (now provider) ≡ 512) ⌝ }
-    ensures { λ r. ⌜ (r ≤ 512) × (take r (linksOf 512 (now (consumer .exit)) (now (key .exit)) (now (realm .exit)) (now (provider .exit))) ≡ keep (λ l. l .live) (take count links)) ⌝ }
+    ensures { λ r. ⌜ (r .count ≤ 512) × (take (r .count) (linksOf 512 (now (consumer .exit)) (now (key .exit)) (now (realm .exit)) (now (provider .exit))) ≡ keep (λ l. l .live) (take count links)) × (r .blank ≡ all isBlankLink (drop count links)) ⌝ }
 {
     let end = at_most(count, 512);
     let mut n = 0;
@@ -412,7 +387,20 @@ pub fn live_columns(
         }
         i += 1;
     }
-    n
+    while i < 512 {
+        let l = links[i];
+        if !model::is_blank_link(l) {
+            return LiveLinks {
+                count: n,
+                blank: false,
+            };
+        }
+        i += 1;
+    }
+    LiveLinks {
+        count: n,
+        blank: true,
+    }
 }
 
 // Whether the columns have a declaration of this owner and port, a provision or a dependency: only their chain is read.
@@ -745,6 +733,7 @@ pub fn resolve_table(
     let mut provides = [false; 256];
     declaration_columns(
         declarations,
+        count,
         &mut owner,
         &mut key,
         &mut realm,
@@ -770,6 +759,7 @@ pub fn target_table(
     let mut provides = [false; 256];
     declaration_columns(
         declarations,
+        count,
         &mut owner,
         &mut key,
         &mut realm,

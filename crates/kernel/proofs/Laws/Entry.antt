@@ -37,22 +37,22 @@ module _ (k : Kernel) (le : k .«node_count» ≤ 64) (z : Sized controller (lay
   unfolding tablesOf
   flags-are f dark blank = flag-nodes f dark (k .nodes) (z .nodes) (k .«node_count») le blank
 
-  pub owners-are : (r : Bool) (owner key realm : List ℕ) (provides : List Bool) → declarationsOf 256 owner key realm provides ≡ k .declarations → ((x y : List ℕ) (z : List Bool) → r ≡ all (hasOwner (k .«node_count»)) (take (k .«declaration_count») (declarationsOf 256 owner x y z))) → r ≡ all (hasOwner (length ((tablesOf (layoutOf k)) .nodes))) ((tablesOf (layoutOf k)) .declarations)
+  pub owners-are : (r : Bool) (owner key realm : List ℕ) (provides : List Bool) → take (k .«declaration_count») (declarationsOf 256 owner key realm provides) ≡ take (k .«declaration_count») (k .declarations) → ((x y : List ℕ) (z : List Bool) → r ≡ all (hasOwner (k .«node_count»)) (take (k .«declaration_count») (declarationsOf 256 owner x y z))) → r ≡ all (hasOwner (length ((tablesOf (layoutOf k)) .nodes))) ((tablesOf (layoutOf k)) .declarations)
   unfolding tablesOf
   owners-are r owner key realm provides e h = rw (length-take-le (k .«node_count») (k .nodes) (omega (arith, z .nodes)), ← e) (h key realm provides)
 
-  pub one-is : (r : Bool) (D : List Declaration) (F : ℕ → Bool) → D ≡ k .declarations → F ≡ present ((tablesOf (layoutOf k)) .nodes) → r ≡ all (λ d. all (sameOwner F d) (take (k .«declaration_count») D)) (take (k .«declaration_count») D) → r ≡ all (λ d. all (sameOwner (present ((tablesOf (layoutOf k)) .nodes)) d) ((tablesOf (layoutOf k)) .declarations)) ((tablesOf (layoutOf k)) .declarations)
+  pub one-is : (r : Bool) (D : List Declaration) (F : ℕ → Bool) → D ≡ take (k .«declaration_count») (k .declarations) → F ≡ present ((tablesOf (layoutOf k)) .nodes) → r ≡ all (λ d. all (sameOwner F d) D) D → r ≡ all (λ d. all (sameOwner (present ((tablesOf (layoutOf k)) .nodes)) d) ((tablesOf (layoutOf k)) .declarations)) ((tablesOf (layoutOf k)) .declarations)
   unfolding tablesOf
-  one-is r D F e f h = h ∙ ap (λ (G : ℕ → Bool). all (λ d. all (sameOwner G d) (take (k .«declaration_count») D)) (take (k .«declaration_count») D)) f ∙ ap (λ (E : List Declaration). all (λ d. all (sameOwner (present (take (k .«node_count») (k .nodes))) d) (take (k .«declaration_count») E)) (take (k .«declaration_count») E)) e
+  one-is r D F e f h = h ∙ ap (λ (G : ℕ → Bool). all (λ d. all (sameOwner G d) D) D) f ∙ ap (λ (E : List Declaration). all (λ d. all (sameOwner (present (take (k .«node_count») (k .nodes))) d) E) E) e
 
-  pub links-are : (r : Bool) (D : List Declaration) (F G : ℕ → Bool) (L : List Link) → D ≡ k .declarations → F ≡ installed ((tablesOf (layoutOf k)) .nodes) → G ≡ serving ((tablesOf (layoutOf k)) .nodes) → L ≡ keep (λ l. l .live) (take (k .«link_count») (k .links)) → r ≡ all (linkOk F G (take (k .«declaration_count») D)) L → r ≡ all (linkOk (installed ((tablesOf (layoutOf k)) .nodes)) (serving ((tablesOf (layoutOf k)) .nodes)) ((tablesOf (layoutOf k)) .declarations)) ((tablesOf (layoutOf k)) .links)
+  pub links-are : (r : Bool) (D : List Declaration) (F G : ℕ → Bool) (L : List Link) → D ≡ take (k .«declaration_count») (k .declarations) → F ≡ installed ((tablesOf (layoutOf k)) .nodes) → G ≡ serving ((tablesOf (layoutOf k)) .nodes) → L ≡ keep (λ l. l .live) (take (k .«link_count») (k .links)) → r ≡ all (linkOk F G D) L → r ≡ all (linkOk (installed ((tablesOf (layoutOf k)) .nodes)) (serving ((tablesOf (layoutOf k)) .nodes)) ((tablesOf (layoutOf k)) .declarations)) ((tablesOf (layoutOf k)) .links)
   unfolding tablesOf linkOk
   links-are r D F G L e f g l h =
       let I : ℕ → Bool = installed (take (k .«node_count») (k .nodes)) in
       let W : ℕ → Bool = serving (take (k .«node_count») (k .nodes)) in
       let ds : List Declaration = take (k .«declaration_count») (k .declarations) in
       h
-      ∙ ap (λ (E : List Declaration). all (linkOk F G (take (k .«declaration_count») E)) L) e
+      ∙ ap (λ (E : List Declaration). all (linkOk F G E) L) e
       ∙ ap (λ (X : ℕ → Bool). all (linkOk X G ds) L) f
       ∙ ap (λ (X : ℕ → Bool). all (linkOk I X ds) L) g
       ∙ ap (λ (X : List Link). all (linkOk I W ds) X) l
@@ -62,14 +62,14 @@ module _ (k : Kernel) (le : k .«node_count» ≤ 64) (z : Sized controller (lay
   unfolding tablesOf apart
   order-is r consumer key realm provider n l h = h key realm ∙ ap (λ (X : List Link). ordered X) l ∙ onward-kept (λ l. l .live) apart (λ x y d. rw d) (λ x y d. rw (d, and-false (x .live))) (take (k .«link_count») (k .links))
 
-  pub cover-is : (r : Bool) (D : List Declaration) (F : ℕ → Bool) (consumer key realm provider : List ℕ) (n : ℕ) → D ≡ k .declarations → F ≡ installed ((tablesOf (layoutOf k)) .nodes) → take n (linksOf 512 consumer key realm provider) ≡ keep (λ l. l .live) (take (k .«link_count») (k .links)) → ((x : List ℕ) → r ≡ all (isCovered F (take n (linksOf 512 consumer key realm x))) (take (k .«declaration_count») D)) → r ≡ coverage (tablesOf (layoutOf k))
+  pub cover-is : (r : Bool) (D : List Declaration) (F : ℕ → Bool) (consumer key realm provider : List ℕ) (n : ℕ) → D ≡ take (k .«declaration_count») (k .declarations) → F ≡ installed ((tablesOf (layoutOf k)) .nodes) → take n (linksOf 512 consumer key realm provider) ≡ keep (λ l. l .live) (take (k .«link_count») (k .links)) → ((x : List ℕ) → r ≡ all (isCovered F (take n (linksOf 512 consumer key realm x))) D) → r ≡ coverage (tablesOf (layoutOf k))
   unfolding tablesOf coverage isCovered linksTo
   cover-is r D F consumer key realm provider n e f l h =
       let I : ℕ → Bool = installed (take (k .«node_count») (k .nodes)) in
       let ls : List Link = take (k .«link_count») (k .links) in
       let L : List Link = take n (linksOf 512 consumer key realm provider) in
       h provider
-      ∙ ap (λ (E : List Declaration). all (isCovered F L) (take (k .«declaration_count») E)) e
+      ∙ ap (λ (E : List Declaration). all (isCovered F L) E) e
       ∙ ap (λ (X : ℕ → Bool). all (isCovered X L) (take (k .«declaration_count») (k .declarations))) f
       ∙ ap (λ (X : List Link). all (isCovered I X) (take (k .«declaration_count») (k .declarations))) l
       ∙ ap (λ (p : Declaration → Bool). all p (take (k .«declaration_count») (k .declarations))) (λ i d. conj (needTests I d) ⇒ any-kept (λ l. l .live) (linksTo (d .owner) (d .port)) (λ x v. rw v) ls i)
@@ -87,6 +87,6 @@ module _ (F G : ℕ → Bool) (f : (id : ℕ) → F id ≡ true → ltb id 64 �
   ends-below r live consumer key realm provider h t k q = rows-pass (endsBelow 64) live 512 (linkAt consumer k q provider) (λ i l m. ends-found (linkAt consumer key realm provider i) refl (row-in (linkOk F G ds) live 512 (linkAt consumer key realm provider) i l m (sym h ∙ t)))
 
 -- the node test, on the tables
-pub nodes-are : (k : Kernel) {r : Bool} → r ≡ allAt (nodeOk (take (k .«node_count») (k .nodes))) 0 (take (k .«node_count») (k .nodes)) → r ≡ true → allAt (nodeOk ((tablesOf (layoutOf k)) .nodes)) 0 ((tablesOf (layoutOf k)) .nodes) ≡ true
+pub nodes-are : (k : Kernel) → allAt (nodeOk (take (k .«node_count») (k .nodes))) 0 (take (k .«node_count») (k .nodes)) ≡ true → allAt (nodeOk ((tablesOf (layoutOf k)) .nodes)) 0 ((tablesOf (layoutOf k)) .nodes) ≡ true
 unfolding tablesOf
-nodes-are k e h = sym e ∙ h
+nodes-are k h = h

@@ -37,6 +37,14 @@ module _ {A : Type 0} where
       go (yes l) = take-all end xs (omega (arith, m .whole l)) ∙ sym (take-all count xs (omega (arith, m .whole l)))
       go (no l) = let f : end ≡ count = omega (arith, m .below) in rw f
 
+  -- and leaves as much
+  pub drop-most : (count n end : ℕ) (xs : List A) → length xs ≡ n → AtMost count n end → drop end xs ≡ drop count xs
+  drop-most count n end xs e m = go (decLt end count)
+    where
+      go : Dec (end < count) → drop end xs ≡ drop count xs
+      go (yes l) = drop-of-length-le xs {i = end} (omega (arith, m .whole l)) ∙ sym (drop-of-length-le xs {i = count} (omega (arith, m .whole l)))
+      go (no l) = let f : end ≡ count = omega (arith, m .below) in rw f
+
 -- ---- all, any, allAt, keep, places, with w the answer on the whole
 
 module _ {A : Type 0} (p : A → Bool) (x : A) (rest rest′ : List A) where

@@ -19,7 +19,7 @@ target-in-requires c κs = search needs
 returns : tie.Need-returns
 returns c =
     let p : c .before .before .before .before .before .before .before .before .before .before .before .before .node-flags .result .providing ≡ map isProviding (c .before .before .before .before .before .before .before .before .before .before .before .before .before .args .nodes) = ap (λ (r : NodeFlags). r .providing) (c .before .before .before .before .before .before .before .before .before .before .before .before .node-flags .ensures) in
-    rw (c .before .before .before .before .before .before .declaration-columns .ensures, p) at (c .target-in .ensures)
+    rw (c .before .before .before .before .before .before .declaration-columns .ensures .0, p) at (c .target-in .ensures)
 
 pub target-table-spec : {M : Type 1} → statement M
 target-table-spec =
