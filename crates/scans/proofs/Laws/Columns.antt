@@ -1,12 +1,12 @@
--- Columns: the row at a place, the rows of a table's own fields, a column filled by a loop.
+-- Columns: the row at a place, what is left of the rows, a test of every row.
 use mathlib.Core.Path.{_∙_, _≡_, ap, refl, sym}
 use mathlib.Core.Bool.{Bool, true}
-use mathlib.Core.List.{List, _∷_}
+use mathlib.Core.List.{_∷_}
 use Prim.Native.Nat.{_+_, _<_, _≤_, min, suc, zero, ℕ}
 use native.Mathlib.Omega.{arith}
 use native.Mathlib.Nat.{add-zero, le-min, min-le-left, min-le-right, zero-add}
 use lib.ListN.{getD, length, length-take, take}
-use lib.Seq.{ext-getD, getD-take, length-take-le, slice}
+use lib.Seq.{getD-take, length-take-le, slice}
 use Rattle.model.proofs.Laws.Lists.{all-in, in-all, in-at, place-in}
 use Rattle.model.specs.Lists.{all}
 use Rattle.model.specs.Points.{Among}
@@ -36,10 +36,6 @@ rows-next {A} n i end f l m = part-next (f 0) i end (rowsFrom 0 n f) l (rw (leng
 -- a count that stops at the size takes as many rows as the count
 pub rows-most : {A : Type 0} (count n end : ℕ) (f : ℕ → A) → AtMost count n end → take end (rowsFrom 0 n f) ≡ take count (rowsFrom 0 n f)
 rows-most count n end f m = take-most count n end (rowsFrom 0 n f) (length-rows 0 n f) m
-
--- rows that agree with a list at each place are that list
-pub rows-are : {A : Type 0} (xs : List A) (n : ℕ) (f : ℕ → A) (d : A) → length xs ≡ n → ((k : ℕ) → k < n → f k ≡ getD xs k d) → rowsFrom 0 n f ≡ xs
-rows-are xs n f d e h = ext-getD d (rowsFrom 0 n f) xs (length-rows 0 n f ∙ sym e) (λ k l. let m : k < n = rw (length-rows 0 n f) at l in row-at n k f d m ∙ h k m)
 
 -- what every row up to a count passes, each row before place end passes
 pub row-passes : {A : Type 0} (p : A → Bool) (count n end k : ℕ) (f : ℕ → A) → AtMost count n end → k < end → all p (take count (rowsFrom 0 n f)) ≡ true → p (f k) ≡ true
