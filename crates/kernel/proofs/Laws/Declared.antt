@@ -32,7 +32,7 @@ use Rattle.model.specs.Soundness.{isDeclaration}
 use Rattle.model.specs.Tables.{Tables, withDeclarations}
 use Rattle.scans.specs.Answers.{flagsOf}
 use Rattle.scans.specs.Columns.{flag}
-use Rattle.scans.proofs.distinct_ports.Kinds as ports
+use Rattle.scans.proofs.declarations.distinct_ports.Kinds as ports
 
 -- ---- tests of their rows
 

@@ -1,0 +1,97 @@
+-- `scans::chains::chain_ports` meets its contract. The entries met are chained.
+use mathlib.Core.Path.{_≡_, sym}
+use mathlib.Core.List.{[]}
+use Prim.Native.Nat.{_-_, _≤_}
+use native.Mathlib.Omega.{arith}
+use borrow.Author.Needs.{needs}
+use Rattle.scans.proofs.Laws.Chains.{chained-next, chained-none}
+use Rattle.scans.specs.Chains.{Chained, bucketAt}
+use Rattle.scans.proofs.chains.chain_ports.Statement.{statement}
+use Rattle.scans.proofs.chains.chain_ports.Tie as tie
+
+abbrev Inv-loop : tie.InvT-loop
+Inv-loop key realm count first₀ next₀ i₀ first next i = (i ≤ count) × Chained (bucketAt [] key realm) 256 i first next
+
+abbrev μ-loop : tie.MeasureT-loop
+μ-loop key realm count first₀ next₀ i₀ first next i = count - i
+
+loop-holds : tie.Need-loop-holds Inv-loop μ-loop
+loop-holds c = (omega arith, rw (c .pre .1) (chained-none _ 256 _ (c .pre .2)))
+
+mul-k : tie.Need-mul-k Inv-loop μ-loop
+mul-k c = omega arith
+
+element-copy-out-k : tie.Need-element-copy-out-k Inv-loop μ-loop
+element-copy-out-k c = omega arith
+
+mul-r : tie.Need-mul-r Inv-loop μ-loop
+mul-r c = omega arith
+
+element-copy-out-r : tie.Need-element-copy-out-r Inv-loop μ-loop
+element-copy-out-r c = omega arith
+
+bucket-of-requires : tie.Need-bucket-of-requires Inv-loop μ-loop
+bucket-of-requires c κs = search needs
+
+mul-next : tie.Need-mul-next Inv-loop μ-loop
+mul-next c = omega arith
+
+element-copy-out-next : tie.Need-element-copy-out-next Inv-loop μ-loop
+element-copy-out-next c = omega arith
+
+mul-next-2 : tie.Need-mul-next-2 Inv-loop μ-loop
+mul-next-2 c = omega arith
+
+element-write-next : tie.Need-element-write-next Inv-loop μ-loop
+element-write-next c = omega arith
+
+add-first : tie.Need-add-first Inv-loop μ-loop
+add-first c = omega arith
+
+mul-first : tie.Need-mul-first Inv-loop μ-loop
+mul-first c = omega arith
+
+element-write-first : tie.Need-element-write-first Inv-loop μ-loop
+element-write-first c = omega arith
+
+add-i : tie.Need-add-i Inv-loop μ-loop
+add-i c = omega arith
+
+loop-less : tie.Need-loop-less Inv-loop μ-loop
+loop-less c = omega arith
+
+loop-again : tie.Need-loop-again Inv-loop μ-loop
+loop-again c =
+    let b = c .before .bucket-of in
+    let j = c .before .before .before .before .before .loop in
+    (omega arith, chained-next _ 256 (j .i) (b .result) (j .first) (j .next) (omega arith) (sym (b .ensures .0)) (b .ensures .1) (j .inv .1))
+
+returns : tie.Need-returns Inv-loop μ-loop
+returns c =
+    let j = c .before .loop in
+    let e : j .i ≡ c .before .before .args .count = omega arith in
+    rw (← e) (j .inv .1)
+
+pub chain-ports-spec : {M : Type 1} → statement M
+chain-ports-spec =
+    tie.close
+    (tie.spec
+    Inv-loop
+    μ-loop
+    loop-holds
+    mul-k
+    element-copy-out-k
+    mul-r
+    element-copy-out-r
+    bucket-of-requires
+    mul-next
+    element-copy-out-next
+    mul-next-2
+    element-write-next
+    add-first
+    mul-first
+    element-write-first
+    add-i
+    loop-less
+    loop-again
+    returns)
