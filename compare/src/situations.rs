@@ -1,0 +1,90 @@
+//! Situations that are easy to get wrong, counted so that a run shows that it met them.
+use crate::log::Command;
+use crate::record::{Node, Record, INACTIVE, LOADING, UNLOADING};
+use crate::sizes::{DECLARATIONS, LINKS};
+
+/// A command with the tables before and after it; every answer is in `after`.
+pub struct Seen<'a> {
+    pub before: &'a Record,
+    pub command: Command,
+    pub after: &'a Record,
+}
+
+/// A situation's name, and whether a command met it.
+pub type Situation = (&'static str, fn(&Seen) -> bool);
+
+pub const SITUATIONS: [Situation; 14] = [
+    ("begin done, bound to a retired provider", |s| {
+        begun(s) && s.added_links().any(|provider| s.before.nodes[provider as usize].retired == 1)
+    }),
+    ("begin done without dependencies at 512 links", |s| begun(s) && s.before.links.len() == LINKS),
+    ("begin done in a second or later episode", |s| begun(s) && s.node().is_some_and(|n| n.generation > 0)),
+    ("begin refused 2 of a retired component", |s| {
+        matches!(s.command, Command::Begin(_)) && s.after.answer == 2 && s.retired()
+    }),
+    ("finish refused 6 of a retired component", |s| {
+        matches!(s.command, Command::Finish(_)) && s.after.answer == 6 && s.retired()
+    }),
+    ("leave_if_changed done of a retired component", |s| {
+        matches!(s.command, Command::LeaveIfChanged(_)) && s.after.answer == 0 && s.retired()
+    }),
+    ("leave_if_changed done of a Loading component that is not retired", |s| {
+        let loading = s.node().is_some_and(|n| n.phase == LOADING && n.retired == 0);
+        matches!(s.command, Command::LeaveIfChanged(_)) && s.after.answer == 0 && loading
+    }),
+    ("begin_cleanup done of a component with live links of its own", |s| {
+        let own = |id: u8| s.before.links.iter().any(|l| l.live == 1 && l.consumer == u64::from(id));
+        s.after.answer == 0 && matches!(s.command, Command::BeginCleanup(id) if own(id))
+    }),
+    ("declare or configure refused 2 of an Inactive component", |s| {
+        let inactive = s.node().is_some_and(|n| n.phase == INACTIVE);
+        matches!(s.command, Command::Declare(..) | Command::Configure(_)) && s.after.answer == 2 && inactive
+    }),
+    ("declare done, unchanged, at 256 declarations", |s| {
+        matches!(s.command, Command::Declare(..)) && s.after.answer == 0 && s.before.declarations.len() == DECLARATIONS
+    }),
+    ("declare or insert done for a port of a removed owner's record", |s| {
+        let adds = matches!(s.command, Command::Declare(..) | Command::Insert(_)) && s.after.answer == 0;
+        adds && s.after.declarations[s.before.declarations.len()..].iter().any(|d| d.provides == 1 && s.tombstone(d.key, d.realm))
+    }),
+    ("configure done that drops dependencies", |s| {
+        let own = |id: u8| s.before.declarations.iter().any(|d| d.owner == u64::from(id) && d.provides == 0);
+        s.after.answer == 0 && matches!(s.command, Command::Configure(id) if own(id))
+    }),
+    ("insert done under a retired parent", |s| {
+        let parent = s.after.nodes.last().filter(|n| n.has_parent == 1).and_then(|n| s.before.nodes.get(n.parent as usize));
+        matches!(s.command, Command::Insert(_)) && s.after.answer == 0 && parent.is_some_and(|p| p.retired == 1)
+    }),
+    ("release done of a retired or Unloading owner's port", |s| {
+        let dropped = s.after.declarations.len() < s.before.declarations.len();
+        matches!(s.command, Command::Release(..)) && dropped && s.node().is_some_and(|n| n.retired == 1 || n.phase == UNLOADING)
+    }),
+];
+
+fn begun(s: &Seen) -> bool {
+    matches!(s.command, Command::Begin(_)) && s.after.answer == 0
+}
+
+impl Seen<'_> {
+    /// The present component that the command names, before it.
+    fn node(&self) -> Option<&Node> {
+        let id = self.command.identity()?;
+        self.before.nodes.get(usize::from(id)).filter(|n| n.present == 1)
+    }
+
+    fn retired(&self) -> bool {
+        self.node().is_some_and(|n| n.retired == 1)
+    }
+
+    /// The providers of the links that the command added.
+    fn added_links(&self) -> impl Iterator<Item = u64> + '_ {
+        self.after.links[self.before.links.len()..].iter().map(|l| l.binding.provider)
+    }
+
+    /// Whether a removed owner's provision of a port still stands.
+    fn tombstone(&self, key: u64, realm: u64) -> bool {
+        let nodes = &self.before.nodes;
+        let provisions = self.before.declarations.iter().filter(|d| d.provides == 1);
+        provisions.filter(|d| d.key == key && d.realm == realm).any(|d| nodes[d.owner as usize].present == 0)
+    }
+}
