@@ -47,7 +47,10 @@ impl Rule {
     }
 
     pub fn print(&self) {
-        println!("iteration rule: committed held {} times on the tables and {} times of the kernel's own answers,", self.committed, self.committed_of_kernel);
+        println!(
+            "iteration rule: committed held {} times on the tables and {} times of the kernel's own answers,",
+            self.committed, self.committed_of_kernel
+        );
         println!("  check_iteration {} times, leave_if_changed {} times", self.iterations, self.leaves);
     }
 

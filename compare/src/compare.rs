@@ -15,7 +15,11 @@ pub struct Asked {
 
 impl Asked {
     fn question(&self, index: usize) -> Option<Question> {
-        if index % self.every == 0 { self.questions.get(index).copied() } else { None }
+        if index % self.every == 0 {
+            self.questions.get(index).copied()
+        } else {
+            None
+        }
     }
 }
 
@@ -127,7 +131,13 @@ impl Comparison<'_> {
         }
     }
 
-    fn differ<T>(&self, what: String, end: usize, original: Record, kernel: Option<Record>) -> Result<T, Box<Difference>> {
+    fn differ<T>(
+        &self,
+        what: String,
+        end: usize,
+        original: Record,
+        kernel: Option<Record>,
+    ) -> Result<T, Box<Difference>> {
         Err(Box::new(Difference { what, index: self.index, start: self.at, end, original, kernel }))
     }
 }

@@ -7,8 +7,22 @@ use crate::sizes::{Size, SIZES};
 
 /// The answers that each command can give from the empty kernel, by its place in the log's command bytes.
 const REACHABLE: [&[u8]; 16] = [
-    &[0, 9], &[0, 9], &[0, 1, 5, 9], &[0, 1, 2, 3, 4, 9], &[0, 1, 2, 6], &[0, 1, 2], &[0, 1, 2, 6], &[0, 1],
-    &[0, 1, 2, 7], &[0, 1, 2], &[0, 1, 2, 8], &[0], &[0], &[0, 1, 2, 3, 5, 9], &[0, 1, 7], &[0, 1, 2, 3, 5, 9],
+    &[0, 9],
+    &[0, 9],
+    &[0, 1, 5, 9],
+    &[0, 1, 2, 3, 4, 9],
+    &[0, 1, 2, 6],
+    &[0, 1, 2],
+    &[0, 1, 2, 6],
+    &[0, 1],
+    &[0, 1, 2, 7],
+    &[0, 1, 2],
+    &[0, 1, 2, 8],
+    &[0],
+    &[0],
+    &[0, 1, 2, 3, 5, 9],
+    &[0, 1, 7],
+    &[0, 1, 2, 3, 5, 9],
 ];
 const CHECKS: [(&str, &[u8]); 2] = [("check_iteration", &[0, 1, 2, 6]), ("check_insert", &[0, 1, 5, 9])];
 
@@ -75,7 +89,12 @@ impl Coverage {
         let commands = NAMES.iter().zip(REACHABLE).zip(&self.answers);
         let checks = CHECKS.iter().zip(&self.checks).map(|(&(name, reachable), met)| ((name, reachable), met));
         let rows = commands.map(|((&name, reachable), met)| ((name, reachable), met)).chain(checks);
-        let unseen = self.situations.iter().zip(SITUATIONS).filter(|(&count, _)| count == 0).map(|(_, (name, _))| name.to_string());
+        let unseen = self
+            .situations
+            .iter()
+            .zip(SITUATIONS)
+            .filter(|(&count, _)| count == 0)
+            .map(|(_, (name, _))| name.to_string());
         let missing = rows.flat_map(|((name, reachable), met)| {
             let unmet = reachable.iter().filter(|&&a| met[usize::from(a)] == 0);
             unmet.map(move |a| format!("{name}: {a}")).collect::<Vec<_>>()
@@ -84,10 +103,18 @@ impl Coverage {
     }
 
     pub fn print(&self) {
-        println!("commands played: {} in {} logs, longest run on one kernel {}", self.commands, self.logs, self.longest_run);
-        println!("runs ended by 11: {}, by 12: {}; observers asked after {} commands", self.stops[0], self.stops[1], self.observed);
-        println!("largest: {} identities, {} declarations, {} links, {} live links, generation {}, a chain of {} live links",
-            self.largest[0], self.largest[1], self.largest[2], self.largest[3], self.largest[4], self.largest[5]);
+        println!(
+            "commands played: {} in {} logs, longest run on one kernel {}",
+            self.commands, self.logs, self.longest_run
+        );
+        println!(
+            "runs ended by 11: {}, by 12: {}; observers asked after {} commands",
+            self.stops[0], self.stops[1], self.observed
+        );
+        println!(
+            "largest: {} identities, {} declarations, {} links, {} live links, generation {}, a chain of {} live links",
+            self.largest[0], self.largest[1], self.largest[2], self.largest[3], self.largest[4], self.largest[5]
+        );
         println!();
         println!("| command | done | {} |", (1..=9).map(|n| n.to_string()).collect::<Vec<_>>().join(" | "));
         println!("|---|{}", "---|".repeat(10));
@@ -122,7 +149,8 @@ fn print_row(name: &str, met: &[u64; 13]) {
 
 fn print_size(size: Size, met: &[u64; 10]) {
     let own = (0..10).filter(|&a| met[a] > 0).map(|a| format!("{a}: {}", met[a]));
-    let own = if size == Size::List { "none: the log player's own".to_string() } else { own.collect::<Vec<_>>().join(", ") };
+    let own =
+        if size == Size::List { "none: the log player's own".to_string() } else { own.collect::<Vec<_>>().join(", ") };
     println!("| {} | {} | {own} |", size.name(), met.iter().sum::<u64>());
 }
 

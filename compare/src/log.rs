@@ -40,9 +40,22 @@ pub const CUT: u8 = 12;
 /// Operand lengths by command byte less one.
 const OPERANDS: [usize; 16] = [16, 16, 1, 1, 1, 1, 1, 1, 1, 1, 1, 0, 0, 17, 17, 1];
 pub const NAMES: [&str; 16] = [
-    "01 dependency", "02 provision", "03 insert", "04 begin", "05 finish", "06 leave", "07 leave_if_changed",
-    "08 retire", "09 begin_cleanup", "0A finish_cleanup", "0B remove", "0C compact_bindings",
-    "0D compact_declarations", "0E declare_provision", "0F release_provision", "10 configure",
+    "01 dependency",
+    "02 provision",
+    "03 insert",
+    "04 begin",
+    "05 finish",
+    "06 leave",
+    "07 leave_if_changed",
+    "08 retire",
+    "09 begin_cleanup",
+    "0A finish_cleanup",
+    "0B remove",
+    "0C compact_bindings",
+    "0D compact_declarations",
+    "0E declare_provision",
+    "0F release_provision",
+    "10 configure",
 ];
 
 impl Command {
@@ -71,7 +84,10 @@ impl Command {
     /// The identity byte, of a command that has one.
     pub fn identity(self) -> Option<u8> {
         match self {
-            Command::Dependency(_) | Command::Provision(_) | Command::CompactBindings | Command::CompactDeclarations => None,
+            Command::Dependency(_)
+            | Command::Provision(_)
+            | Command::CompactBindings
+            | Command::CompactDeclarations => None,
             Command::Insert(id) | Command::Begin(id) | Command::Finish(id) | Command::Leave(id) => Some(id),
             Command::LeaveIfChanged(id) | Command::Retire(id) | Command::BeginCleanup(id) => Some(id),
             Command::FinishCleanup(id) | Command::Remove(id) | Command::Configure(id) => Some(id),

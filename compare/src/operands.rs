@@ -131,6 +131,10 @@ impl Generator<'_> {
 
     /// A list's length up to a longest; one in a hundred is too long.
     pub fn length(&mut self, longest: usize) -> usize {
-        if self.random.chance(1) { LIST + 2 } else { self.random.below(longest + 1) }
+        if self.random.chance(1) {
+            LIST + 2
+        } else {
+            self.random.below(longest + 1)
+        }
     }
 }

@@ -3,7 +3,13 @@
 extern "C" {
     fn nobrighi_play(log: *const u8, log_len: usize, answers: *mut u8, answers_len: usize) -> usize;
     fn nobrighi_record(
-        log: *const u8, log_len: usize, questions: *const u8, questions_len: usize, every: usize, out: *mut u8, out_len: usize,
+        log: *const u8,
+        log_len: usize,
+        questions: *const u8,
+        questions_len: usize,
+        every: usize,
+        out: *mut u8,
+        out_len: usize,
     ) -> usize;
 }
 
@@ -21,7 +27,13 @@ pub fn record(log: &[u8], questions: &[u8], every: usize, out: &mut [u8]) -> usi
     // SAFETY: the library reads and writes only within the slices whose lengths are given.
     unsafe {
         nobrighi_record(
-            log.as_ptr(), log.len(), questions.as_ptr(), questions.len(), every, out.as_mut_ptr(), out.len(),
+            log.as_ptr(),
+            log.len(),
+            questions.as_ptr(),
+            questions.len(),
+            every,
+            out.as_mut_ptr(),
+            out.len(),
         )
     }
 }

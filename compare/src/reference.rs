@@ -171,7 +171,11 @@ fn counts(kernel: &Kernel) -> Counts {
 }
 
 fn parent_of(byte: u8) -> Option<usize> {
-    if byte == log::NONE { None } else { Some(byte.into()) }
+    if byte == log::NONE {
+        None
+    } else {
+        Some(byte.into())
+    }
 }
 
 /// A refusal's number is its place in lib.rs's list, from 1.

@@ -57,7 +57,7 @@ fn ask(log: Vec<u8>, every: usize, random: &mut Random) -> Asked {
     Asked { log, questions, every }
 }
 
-/// A random log: many short ones with every observer after each command, fewer long ones with the observers now and then.
+/// A random log: many short ones with every observer after each command, fewer long ones with observers now and then.
 fn random_log(random: &mut Random) -> Asked {
     let (length, small, every) = match random.below(100) {
         0..=49 => (20 + random.below(300), false, 1),

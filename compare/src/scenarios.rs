@@ -77,7 +77,9 @@ fn declarations() -> Vec<u8> {
     }
     // 252 so far
     s.root(&[], &ports(500, 5)).root(&[port(900, 1)], &ports(500, 3));
-    s.add(Command::Declare(4, port(500, 1))).add(Command::Declare(4, port(700, 1))).add(Command::Declare(4, port(0, 1)));
+    s.add(Command::Declare(4, port(500, 1)))
+        .add(Command::Declare(4, port(700, 1)))
+        .add(Command::Declare(4, port(0, 1)));
     s.root(&[], &[]).root(&[P], &[]).configure(0, &[P, P]).configure(0, &[]).configure(1, &[P]);
     s.add(Command::Declare(4, port(700, 1))).configure(1, &ports(50, 31)).configure(1, &ports(50, LIST));
     s.add(Command::Retire(2)).add(Command::Remove(2)).add(Command::CompactDeclarations);
@@ -147,7 +149,12 @@ fn reinserted() -> Vec<u8> {
         s.start(id);
     }
     s.stop(2).stop(1).stop(0).add(Command::Retire(1)).add(Command::Remove(1)).begin(1).begin(2);
-    s.root(&[P], &[port(8, 1)]).start(0).start(3).start(2).add(Command::CompactDeclarations).add(Command::CompactBindings);
+    s.root(&[P], &[port(8, 1)])
+        .start(0)
+        .start(3)
+        .start(2)
+        .add(Command::CompactDeclarations)
+        .add(Command::CompactBindings);
     s.add(Command::Release(1, port(8, 1))).add(Command::Declare(1, port(8, 1))).stop(3).stop(2).stop(3);
     s.log
 }
@@ -176,9 +183,16 @@ fn release() -> Vec<u8> {
     let mut s = Script::new();
     s.root(&[], &[P, port(8, 1)]).add(Command::Release(0, P)).add(Command::Declare(0, P)).begin(0);
     s.add(Command::Release(0, P)).add(Command::Declare(0, P)).add(Command::Finish(0));
-    s.root(&[P], &[]).begin(1).add(Command::Release(0, P)).add(Command::Release(1, P)).add(Command::Release(0, port(8, 1)));
+    s.root(&[P], &[])
+        .begin(1)
+        .add(Command::Release(0, P))
+        .add(Command::Release(1, P))
+        .add(Command::Release(0, port(8, 1)));
     s.add(Command::Leave(0)).add(Command::Release(0, P)).stop(1).add(Command::Release(0, P)).root(&[], &[P]);
-    s.add(Command::Retire(0)).add(Command::Release(0, port(7, 2))).add(Command::Release(2, P)).add(Command::Release(3, P));
+    s.add(Command::Retire(0))
+        .add(Command::Release(0, port(7, 2)))
+        .add(Command::Release(2, P))
+        .add(Command::Release(3, P));
     s.log
 }
 
@@ -198,7 +212,12 @@ fn bytes_of_ports() -> Vec<u8> {
         s.root(&[], &[port(1 << (8 * place), 0), port(0, 1 << (8 * place))]);
     }
     s.root(&[port(1, 0), port(0, 1), port(1 << 56, 0), port(0, 1 << 56)], &[port(0, 0), port(u64::MAX, u64::MAX)]);
-    s.start(0).begin(8).start(7).start(8).add(Command::Release(7, port(1 << 56, 0))).add(Command::Release(7, port(1 << 48, 0)));
+    s.start(0)
+        .begin(8)
+        .start(7)
+        .start(8)
+        .add(Command::Release(7, port(1 << 56, 0)))
+        .add(Command::Release(7, port(1 << 48, 0)));
     s.log
 }
 

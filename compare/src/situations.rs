@@ -45,19 +45,24 @@ pub const SITUATIONS: [Situation; 14] = [
     }),
     ("declare or insert done for a port of a removed owner's record", |s| {
         let adds = matches!(s.command, Command::Declare(..) | Command::Insert(_)) && s.after.answer == 0;
-        adds && s.after.declarations[s.before.declarations.len()..].iter().any(|d| d.provides == 1 && s.tombstone(d.key, d.realm))
+        adds && s.after.declarations[s.before.declarations.len()..]
+            .iter()
+            .any(|d| d.provides == 1 && s.tombstone(d.key, d.realm))
     }),
     ("configure done that drops dependencies", |s| {
         let own = |id: u8| s.before.declarations.iter().any(|d| d.owner == u64::from(id) && d.provides == 0);
         s.after.answer == 0 && matches!(s.command, Command::Configure(id) if own(id))
     }),
     ("insert done under a retired parent", |s| {
-        let parent = s.after.nodes.last().filter(|n| n.has_parent == 1).and_then(|n| s.before.nodes.get(n.parent as usize));
+        let parent =
+            s.after.nodes.last().filter(|n| n.has_parent == 1).and_then(|n| s.before.nodes.get(n.parent as usize));
         matches!(s.command, Command::Insert(_)) && s.after.answer == 0 && parent.is_some_and(|p| p.retired == 1)
     }),
     ("release done of a retired or Unloading owner's port", |s| {
         let dropped = s.after.declarations.len() < s.before.declarations.len();
-        matches!(s.command, Command::Release(..)) && dropped && s.node().is_some_and(|n| n.retired == 1 || n.phase == UNLOADING)
+        matches!(s.command, Command::Release(..))
+            && dropped
+            && s.node().is_some_and(|n| n.retired == 1 || n.phase == UNLOADING)
     }),
 ];
 

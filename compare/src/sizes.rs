@@ -59,7 +59,9 @@ pub fn refuses(command: Command, before: Counts, after: Counts, listed: usize, o
         Command::Insert(_) if before.nodes == IDENTITIES => Some(Size::Identities),
         Command::Insert(_) if after.declarations > DECLARATIONS => Some(Size::InsertSum),
         Command::Declare(..) if after.declarations > DECLARATIONS => Some(Size::DeclareSum),
-        Command::Configure(_) if reached_the_sum && before.declarations + listed > DECLARATIONS => Some(Size::ConfigureSum),
+        Command::Configure(_) if reached_the_sum && before.declarations + listed > DECLARATIONS => {
+            Some(Size::ConfigureSum)
+        }
         Command::Begin(_) if after.links > LINKS => Some(Size::Links),
         _ => None,
     }

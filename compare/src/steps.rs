@@ -34,7 +34,9 @@ impl Generator<'_> {
         let (ready, loading) = (self.ready(), self.in_phase(Phase::Loading));
         match self.random.below(10) {
             0..=4 if !ready.is_empty() => self.on(&ready, Command::Begin),
-            5..=8 if !loading.is_empty() && self.random.chance(self.profile.finish) => self.on(&loading, Command::Finish),
+            5..=8 if !loading.is_empty() && self.random.chance(self.profile.finish) => {
+                self.on(&loading, Command::Finish)
+            }
             9 => self.interface(),
             _ => self.churn(),
         }
@@ -66,7 +68,8 @@ impl Generator<'_> {
     fn interface(&mut self) {
         let present = self.present();
         let Some(id) = self.random.pick(&present).map(|id| id as u8) else { return self.insert() };
-        let own: Vec<Port> = self.guide.declarations.iter().filter(|d| d.owner == usize::from(id)).map(|d| d.port).collect();
+        let own: Vec<Port> =
+            self.guide.declarations.iter().filter(|d| d.owner == usize::from(id)).map(|d| d.port).collect();
         match self.random.below(7) {
             0 => {
                 let p = self.free_port();
@@ -127,7 +130,9 @@ impl Generator<'_> {
             Phase::Loading => [Command::Finish(byte), Command::LeaveIfChanged(byte), Command::Leave(byte)],
             Phase::Active => [Command::LeaveIfChanged(byte), Command::Leave(byte), Command::Begin(byte)],
             Phase::Unloading if node.restoring => [Command::FinishCleanup(byte); 3],
-            Phase::Unloading => [Command::BeginCleanup(byte), Command::BeginCleanup(byte), Command::FinishCleanup(byte)],
+            Phase::Unloading => {
+                [Command::BeginCleanup(byte), Command::BeginCleanup(byte), Command::FinishCleanup(byte)]
+            }
         };
         let command = self.random.pick(&options).unwrap_or(Command::Begin(byte));
         self.add(command);
@@ -135,7 +140,8 @@ impl Generator<'_> {
 
     /// Towards Inactive.
     pub fn drain(&mut self) {
-        let installed: Vec<usize> = self.present().into_iter().filter(|&id| self.guide.nodes[id].phase != Phase::Inactive).collect();
+        let installed: Vec<usize> =
+            self.present().into_iter().filter(|&id| self.guide.nodes[id].phase != Phase::Inactive).collect();
         let Some(id) = self.random.pick(&installed) else { return self.grow() };
         self.towards_inactive(id);
     }
