@@ -1,27 +1,35 @@
 //! What the observers are asked after each command of a log.
-use crate::log::{self, Command, Next, Port};
+use crate::guide::Guide;
+use crate::log::{self, Command, Next};
 use crate::random::Random;
 use crate::record::Question;
+use crate::script::P;
 
-/// A question for each command: mostly on the next command's identity and port, so that the target that a begin or
-/// a leave_if_changed meets is observed just before it.
+/// A question for each command: mostly on the next command's identity, so that the target that a begin or a
+/// leave_if_changed meets is observed just before it; else on a declaration, a removed owner's too, or on anything.
 pub fn of(log: &[u8], random: &mut Random) -> Vec<Question> {
     let commands = commands(log);
-    let ports: Vec<Port> = commands.iter().filter_map(|c| c.port()).collect();
-    (0..=commands.len())
-        .map(|at| {
-            let next = commands.get(at + 1);
-            let identity = match next.and_then(|c| c.identity()) {
-                Some(id) if random.chance(85) => id,
-                _ => any_identity(random),
-            };
-            let port = match next.and_then(|c| c.port()) {
-                Some(p) if random.chance(50) => p,
-                _ => random.pick(&ports).unwrap_or(Port { key: 7, realm: 1 }),
-            };
-            Question { identity, key: port.key, realm: port.realm }
-        })
-        .collect()
+    let mut guide = Guide::default();
+    let mut questions = Vec::new();
+    for at in 0..=commands.len() {
+        if let Some(&command) = commands.get(at) {
+            guide.play(command);
+        }
+        questions.push(question(commands.get(at + 1), &guide, random));
+    }
+    questions
+}
+
+fn question(next: Option<&Command>, guide: &Guide, random: &mut Random) -> Question {
+    let declared = random.pick(&guide.declarations);
+    let port = next.and_then(|c| c.port()).filter(|_| random.chance(50));
+    let port = port.or(declared.map(|d| d.port)).unwrap_or(P);
+    let identity = match (next.and_then(|c| c.identity()), declared) {
+        (Some(id), _) if random.chance(70) => id,
+        (_, Some(d)) if random.chance(70) => d.owner as u8,
+        _ => any_identity(random),
+    };
+    Question { identity, key: port.key, realm: port.realm }
 }
 
 /// The whole commands of a log.

@@ -80,10 +80,13 @@ fn declarations() -> Vec<u8> {
     s.add(Command::Declare(4, port(500, 1)))
         .add(Command::Declare(4, port(700, 1)))
         .add(Command::Declare(4, port(0, 1)));
-    s.root(&[], &[]).root(&[P], &[]).configure(0, &[P, P]).configure(0, &[]).configure(1, &[P]);
-    s.add(Command::Declare(4, port(700, 1))).configure(1, &ports(50, 31)).configure(1, &ports(50, LIST));
-    s.add(Command::Retire(2)).add(Command::Remove(2)).add(Command::CompactDeclarations);
-    s.configure(1, &ports(2000, LIST)).add(Command::Release(3, port(301, 1))).add(Command::Declare(4, port(701, 1)));
+    // full: no further port, yet an empty component, and each refusal that stands before the sum
+    s.root(&[], &[]).root(&[P], &[]).begin(5).configure(5, &[P]).add(Command::Retire(3)).configure(3, &[P, P]);
+    s.configure(9, &[P, P]).configure(0, &[P, P]).configure(0, &[]);
+    // 224: the sum counts the dependencies that go
+    s.configure(1, &ports(50, LIST)).add(Command::Declare(4, port(700, 1))).configure(1, &ports(50, LIST));
+    s.configure(1, &ports(50, LIST - 1)).add(Command::Retire(2)).add(Command::Remove(2)).configure(1, &ports(60, LIST));
+    s.add(Command::CompactDeclarations).configure(1, &ports(60, LIST)).add(Command::Release(3, port(301, 1)));
     s.log
 }
 
