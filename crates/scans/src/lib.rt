@@ -3,7 +3,7 @@ use model::Binding;
 
 mod chains;
 mod columns;
-mod declarations;
+pub mod declarations;
 mod limits;
 mod nodes;
 mod points;
