@@ -1,0 +1,6 @@
+//! (c) The plain kernel as a crate of its own: each command is a call that takes the kernel and hands it back.
+#[path = "plain_player.rs"]
+mod player;
+
+use plain as kernel;
+pub use player::play;
