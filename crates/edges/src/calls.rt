@@ -1,13 +1,14 @@
-// A line for each command and check. `name` is the situation in words.
+// Lines for each command and check. `name` is the situation in words.
 use crate::lines;
 use crate::records::copies;
 use crate::records::no_ports;
+use crate::records::port;
 use kernel::Kernel;
 use model::Parent;
-use model::Port;
 use model::PortList;
 
-pub fn check_insert(
+// check_insert and insert on the same operands.
+pub fn insertion(
     name: &[u8],
     k: Kernel,
     parent: Parent,
@@ -16,30 +17,33 @@ pub fn check_insert(
 ) {
     lines::under(b"check_insert", parent, name);
     lines::check(k.check_insert(parent, dependencies, provisions));
-}
-
-pub fn insert(
-    name: &[u8],
-    k: Kernel,
-    parent: Parent,
-    dependencies: PortList,
-    provisions: PortList,
-) {
     lines::under(b"insert", parent, name);
     lines::insert_outcome(k, k.insert(parent, dependencies, provisions));
 }
 
-pub fn declare_provision(name: &[u8], k: Kernel, id: usize, port: Port) {
+// Both without a parent, with these provisions.
+pub fn providing(name: &[u8], k: Kernel, provisions: PortList) {
+    insertion(name, k, Parent::None, no_ports(), provisions);
+}
+
+// Both without a parent, with these dependencies.
+pub fn depending(name: &[u8], k: Kernel, dependencies: PortList) {
+    insertion(name, k, Parent::None, dependencies, no_ports());
+}
+
+pub fn declare(name: &[u8], k: Kernel, id: usize, key: u64, realm: u64) {
+    let port = port(key, realm);
     lines::with_port(b"declare_provision", id, port, name);
     lines::outcome(k, k.declare_provision(id, port));
 }
 
-pub fn release_provision(name: &[u8], k: Kernel, id: usize, port: Port) {
+pub fn release(name: &[u8], k: Kernel, id: usize, key: u64, realm: u64) {
+    let port = port(key, realm);
     lines::with_port(b"release_provision", id, port, name);
     lines::outcome(k, k.release_provision(id, port));
 }
 
-pub fn configure_pending_dependencies(name: &[u8], k: Kernel, id: usize, list: PortList) {
+pub fn configure(name: &[u8], k: Kernel, id: usize, list: PortList) {
     lines::named(b"configure_pending_dependencies", id, name);
     lines::outcome(k, k.configure_pending_dependencies(id, list));
 }
@@ -49,42 +53,26 @@ pub fn begin(name: &[u8], k: Kernel, id: usize) {
     lines::outcome(k, k.begin(id));
 }
 
-fn check_iteration(name: &[u8], k: Kernel, id: usize) {
+// The commands and checks of a Loading or Active component.
+fn running(name: &[u8], k: Kernel, id: usize) {
     lines::named(b"check_iteration", id, name);
     lines::check(k.check_iteration(id));
-}
-
-fn finish(name: &[u8], k: Kernel, id: usize) {
     lines::named(b"finish", id, name);
     lines::outcome(k, k.finish(id));
-}
-
-fn leave(name: &[u8], k: Kernel, id: usize) {
     lines::named(b"leave", id, name);
     lines::outcome(k, k.leave(id));
-}
-
-fn leave_if_changed(name: &[u8], k: Kernel, id: usize) {
     lines::named(b"leave_if_changed", id, name);
     lines::outcome(k, k.leave_if_changed(id));
 }
 
-fn retire(name: &[u8], k: Kernel, id: usize) {
+// retire, cleanup and remove.
+fn ending(name: &[u8], k: Kernel, id: usize) {
     lines::named(b"retire", id, name);
     lines::outcome(k, k.retire(id));
-}
-
-fn begin_cleanup(name: &[u8], k: Kernel, id: usize) {
     lines::named(b"begin_cleanup", id, name);
     lines::outcome(k, k.begin_cleanup(id));
-}
-
-fn finish_cleanup(name: &[u8], k: Kernel, id: usize) {
     lines::named(b"finish_cleanup", id, name);
     lines::outcome(k, k.finish_cleanup(id));
-}
-
-fn remove(name: &[u8], k: Kernel, id: usize) {
     lines::named(b"remove", id, name);
     lines::outcome(k, k.remove(id));
 }
@@ -96,31 +84,13 @@ pub fn compactions(name: &[u8], k: Kernel) {
     lines::compaction_outcome(k, k.compact_declarations());
 }
 
-// check_insert and insert on the same operands.
-pub fn insertion(
-    name: &[u8],
-    k: Kernel,
-    parent: Parent,
-    dependencies: PortList,
-    provisions: PortList,
-) {
-    check_insert(name, k, parent, dependencies, provisions);
-    insert(name, k, parent, dependencies, provisions);
-}
-
-// Each command and check that names an identity; it is the parent of insert, the port its dependency.
-pub fn every(name: &[u8], k: Kernel, id: usize, port: Port) {
-    insertion(name, k, Parent::Of(id), copies(port, 1), no_ports());
-    declare_provision(name, k, id, port);
-    release_provision(name, k, id, port);
-    configure_pending_dependencies(name, k, id, copies(port, 1));
+// Each command and check that names an identity, which is insert's parent; the port is KEY/1, and insert depends on it.
+pub fn every(name: &[u8], k: Kernel, id: usize, key: u64) {
+    insertion(name, k, Parent::Of(id), copies(key, 1), no_ports());
+    declare(name, k, id, key, 1);
+    release(name, k, id, key, 1);
+    configure(name, k, id, copies(key, 1));
     begin(name, k, id);
-    check_iteration(name, k, id);
-    finish(name, k, id);
-    leave(name, k, id);
-    leave_if_changed(name, k, id);
-    retire(name, k, id);
-    begin_cleanup(name, k, id);
-    finish_cleanup(name, k, id);
-    remove(name, k, id);
+    running(name, k, id);
+    ending(name, k, id);
 }

@@ -1,120 +1,78 @@
 // The comparison behind `changed` and `unchanged` sees each field: the empty kernel against one that differs in it alone.
 use crate::lines;
-use crate::records::link;
-use crate::records::node;
-use crate::records::port;
 use crate::records::with_counts;
 use crate::records::with_declaration;
 use crate::records::with_link;
 use crate::records::with_node;
 use kernel::Kernel;
-use model::Declaration;
-use model::Link;
-use model::Node;
 use model::Parent;
 use model::Phase;
 
-fn compared(name: &[u8], k: Kernel) {
-    lines::nameless(b"compare", name);
-    lines::compared(Kernel::new(), k);
+fn one(yes: bool) -> usize {
+    if yes { 1 } else { 0 }
 }
 
-fn of_node(name: &[u8], place: usize, node: Node) {
-    compared(name, with_node(Kernel::new(), place, node));
+fn digit(yes: bool) -> u64 {
+    one(yes) as u64
 }
 
-fn of_declaration(name: &[u8], place: usize, declaration: Declaration) {
-    compared(name, with_declaration(Kernel::new(), place, declaration));
+fn phase(loading: bool) -> Phase {
+    if loading {
+        Phase::Loading
+    } else {
+        Phase::Inactive
+    }
 }
 
-fn of_link(name: &[u8], place: usize, link: Link) {
-    compared(name, with_link(Kernel::new(), place, link));
+fn parent(of: bool) -> Parent {
+    if of { Parent::Of(0) } else { Parent::None }
 }
 
-fn of_counts(name: &[u8], nodes: usize, declarations: usize, links: usize) {
-    compared(name, with_counts(Kernel::new(), nodes, declarations, links));
+// Fields 1 to 6, of the node at this place: present, retired, phase, restoring, parent, generation.
+fn differing_node(k: Kernel, f: usize, place: usize) -> Kernel {
+    let p = phase(f == 3);
+    let q = parent(f == 5);
+    let g = digit(f == 6);
+    with_node(k, place, f == 1, f == 2, p, f == 4, q, g)
 }
 
-fn nodes() {
-    let inactive = Phase::Inactive;
-    let none = Parent::None;
-    of_node(
-        b"a blank node",
-        0,
-        node(false, false, inactive, false, none, 0),
-    );
-    of_node(
-        b"present of node 0",
-        0,
-        node(true, false, inactive, false, none, 0),
-    );
-    of_node(
-        b"retired of node 63",
-        63,
-        node(false, true, inactive, false, none, 0),
-    );
-    of_node(
-        b"phase of node 0",
-        0,
-        node(false, false, Phase::Loading, false, none, 0),
-    );
-    of_node(
-        b"restoring of node 63",
-        63,
-        node(false, false, inactive, true, none, 0),
-    );
-    of_node(
-        b"parent of node 0",
-        0,
-        node(false, false, inactive, false, Parent::Of(0), 0),
-    );
-    of_node(
-        b"generation of node 63",
-        63,
-        node(false, false, inactive, false, none, 1),
-    );
+// Fields 7 to 10, of the declaration: owner, key, realm, provides.
+fn differing_declaration(k: Kernel, f: usize, place: usize) -> Kernel {
+    with_declaration(k, place, one(f == 7), digit(f == 8), digit(f == 9), f == 10)
 }
 
-fn declarations() {
-    of_declaration(b"a blank declaration", 0, model::dependency(0, port(0, 0)));
-    of_declaration(
-        b"owner of declaration 0",
-        0,
-        model::dependency(1, port(0, 0)),
-    );
-    of_declaration(
-        b"key of declaration 255",
-        255,
-        model::dependency(0, port(1, 0)),
-    );
-    of_declaration(
-        b"realm of declaration 0",
-        0,
-        model::dependency(0, port(0, 1)),
-    );
-    of_declaration(
-        b"provides of declaration 255",
-        255,
-        model::provision(0, port(0, 0)),
-    );
+// Fields 11 to 15, of the link: consumer, key, realm, provider, live.
+fn differing_link(k: Kernel, f: usize, place: usize) -> Kernel {
+    let c = one(f == 11);
+    let p = one(f == 14);
+    with_link(k, place, c, digit(f == 12), digit(f == 13), p, f == 15)
 }
 
-fn links() {
-    of_link(b"a blank link", 0, link(0, port(0, 0), 0, false));
-    of_link(b"consumer of link 0", 0, link(1, port(0, 0), 0, false));
-    of_link(b"key of link 511", 511, link(0, port(1, 0), 0, false));
-    of_link(b"realm of link 0", 0, link(0, port(0, 1), 0, false));
-    of_link(b"provider of link 511", 511, link(0, port(0, 0), 1, false));
-    of_link(b"live of link 0", 0, link(0, port(0, 0), 0, true));
+// Fields 16 to 18, the counts of nodes, declarations and links.
+fn differing_counts(k: Kernel, f: usize) -> Kernel {
+    with_counts(k, one(f == 16), one(f == 17), one(f == 18))
+}
+
+// The empty kernel against one that differs from it in this field alone, in the records at these places.
+fn compare(name: &[u8], f: usize, node: usize, declaration: usize, link: usize) {
+    let k = differing_node(Kernel::new(), f, node);
+    let k = differing_declaration(k, f, declaration);
+    let k = differing_link(k, f, link);
+    lines::named(b"compare", f, name);
+    lines::compared(Kernel::new(), differing_counts(k, f));
+}
+
+// Each field in turn; in field 0 nothing differs.
+fn fields(name: &[u8], node: usize, declaration: usize, link: usize) {
+    let mut f = 0;
+    while f < 19 {
+        compare(name, f, node, declaration, link);
+        f += 1;
+    }
 }
 
 pub fn every() {
     lines::heading(b"the comparison");
-    nodes();
-    declarations();
-    links();
-    of_counts(b"counts 0", 0, 0, 0);
-    of_counts(b"node count", 1, 0, 0);
-    of_counts(b"declaration count", 0, 1, 0);
-    of_counts(b"link count", 0, 0, 1);
+    fields(b"first records", 0, 0, 0);
+    fields(b"last records", 63, 255, 511);
 }

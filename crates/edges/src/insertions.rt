@@ -1,51 +1,45 @@
-// Insertion into the kernel of `states`: the parent, repeats, ports that are provided, the order of the tests.
+// Insertion into the kernel of `states`: ports that are provided, repeats, the order of the tests.
+use crate::calls::depending;
 use crate::calls::insertion;
+use crate::calls::providing;
 use crate::lines;
 use crate::records::copies;
 use crate::records::no_ports;
-use crate::records::port;
 use crate::records::ports;
 use kernel::Kernel;
 use model::Parent;
-use model::PortList;
 
-// Under no parent, with these provisions.
-fn providing(name: &[u8], k: Kernel, provisions: PortList) {
-    insertion(name, k, Parent::None, no_ports(), provisions);
+fn ports_provided(k: Kernel) {
+    providing(b"a port of an Active owner", k, copies(1, 1));
+    providing(b"a port of an Unloading owner", k, copies(2, 1));
+    providing(b"a port of an Inactive owner", k, copies(3, 1));
+    providing(b"a port of a retired owner", k, copies(5, 1));
+    providing(b"a port of a removed owner", k, copies(4, 1));
 }
 
-fn depending(name: &[u8], k: Kernel, dependencies: PortList) {
-    insertion(name, k, Parent::None, dependencies, no_ports());
-}
-
-fn provided(k: Kernel) {
-    providing(b"a port of an Active owner", k, copies(port(1, 1), 1));
-    providing(b"a port of an Unloading owner", k, copies(port(2, 1), 1));
-    providing(b"a port of an Inactive owner", k, copies(port(3, 1), 1));
-    providing(b"a port of a retired owner", k, copies(port(5, 1), 1));
-    providing(b"a port of a removed owner", k, copies(port(4, 1), 1));
-    providing(b"a provided port past the count", k, copies(port(1, 1), 0));
-    providing(
-        b"the key of a provided port in another realm",
+fn ports_accepted(k: Kernel) {
+    providing(b"a provided port past the count", k, copies(1, 0));
+    providing(b"provided keys in another realm", k, ports(2, 8));
+    depending(b"a provided port as a dependency", k, copies(1, 1));
+    insertion(
+        b"one port in both lists",
         k,
-        copies(port(1, 2), 1),
+        Parent::None,
+        copies(9, 1),
+        copies(9, 1),
     );
-    depending(b"a provided port as a dependency", k, copies(port(1, 1), 1));
 }
 
-fn repeats(k: Kernel) {
-    let none = Parent::None;
-    let once = copies(port(9, 9), 1);
-    let twice = copies(port(9, 9), 2);
-    depending(b"a dependency twice", k, twice);
-    providing(b"a provision twice", k, twice);
-    insertion(b"one port in both lists", k, none, once, once);
+fn ports_repeated(k: Kernel) {
+    depending(b"a dependency twice", k, copies(9, 2));
+    providing(b"a provision twice", k, copies(9, 2));
+    depending(b"33 times one port", k, copies(9, 33));
+    depending(b"2^64 - 1 ports", k, ports(9, 18446744073709551615));
 }
 
 // Where two tests apply, the earlier one gives the refusal.
-fn orders(k: Kernel) {
+fn parent_absent(k: Kernel) {
     let absent = Parent::Of(17);
-    let twice = copies(port(9, 9), 2);
     insertion(
         b"33 dependencies, parent absent",
         k,
@@ -60,13 +54,11 @@ fn orders(k: Kernel) {
         no_ports(),
         ports(9, 33),
     );
-    depending(b"33 times one port", k, copies(port(9, 9), 33));
-    depending(b"2^64 - 1 ports", k, ports(9, 18446744073709551615));
     insertion(
         b"a dependency twice, parent absent",
         k,
         absent,
-        twice,
+        copies(9, 2),
         no_ports(),
     );
     insertion(
@@ -74,13 +66,14 @@ fn orders(k: Kernel) {
         k,
         absent,
         no_ports(),
-        copies(port(1, 1), 1),
+        copies(1, 1),
     );
 }
 
 pub fn every(k: Kernel) {
     lines::heading(b"insertion");
-    provided(k);
-    repeats(k);
-    orders(k);
+    ports_provided(k);
+    ports_accepted(k);
+    ports_repeated(k);
+    parent_absent(k);
 }

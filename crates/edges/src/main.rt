@@ -11,7 +11,8 @@
 // command and check on each of them; ports and lists; unsound kernels. Every kernel is reached by
 // commands from the empty one, but for the largest generations and the unsound kernels, which no list
 // of commands reaches. Where two tests of a row apply, the line shows which comes first. The last
-// section shows that the comparison sees each field.
+// section shows that the comparison sees each field: `compare N` is of a kernel that differs from the
+// empty one in field N alone, as comparison.rt numbers them, and in field 0 in nothing.
 mod calls;
 mod compare;
 mod comparison;

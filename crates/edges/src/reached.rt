@@ -1,11 +1,11 @@
-// Commands whose answer is not shown, and kernels that they reach from the empty one.
+// Commands whose answers are not shown, and kernels that they reach from the empty one.
+use crate::records::copies;
 use crate::records::no_ports;
+use crate::records::port;
 use crate::records::ports;
-use kernel::InsertOutcome;
 use kernel::Kernel;
 use kernel::Outcome;
 use model::Parent;
-use model::Port;
 use model::PortList;
 
 fn left(outcome: Outcome) -> Kernel {
@@ -13,17 +13,19 @@ fn left(outcome: Outcome) -> Kernel {
     k
 }
 
-fn left_by_insert(outcome: InsertOutcome) -> Kernel {
+pub fn inserted(k: Kernel, parent: Parent, dependencies: PortList, provisions: PortList) -> Kernel {
+    let outcome = k.insert(parent, dependencies, provisions);
     let k = outcome.kernel;
     k
 }
 
-pub fn inserted(k: Kernel, parent: Parent, dependencies: PortList, provisions: PortList) -> Kernel {
-    left_by_insert(k.insert(parent, dependencies, provisions))
+pub fn declared(k: Kernel, id: usize, key: u64, realm: u64) -> Kernel {
+    left(k.declare_provision(id, port(key, realm)))
 }
 
-pub fn declared(k: Kernel, id: usize, port: Port) -> Kernel {
-    left(k.declare_provision(id, port))
+// It depends on KEY/1 alone.
+pub fn configured(k: Kernel, id: usize, key: u64) -> Kernel {
+    left(k.configure_pending_dependencies(id, copies(key, 1)))
 }
 
 pub fn begun(k: Kernel, id: usize) -> Kernel {
@@ -61,12 +63,6 @@ pub fn retired(k: Kernel, id: usize) -> Kernel {
 pub fn removed(k: Kernel, id: usize) -> Kernel {
     let k = retired(k, id);
     left(k.remove(id))
-}
-
-pub fn compacted(k: Kernel) -> Kernel {
-    let outcome = k.compact_bindings();
-    let k = outcome.kernel;
-    k
 }
 
 // As many components; each provides as many ports, in a realm of its own.

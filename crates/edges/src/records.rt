@@ -1,4 +1,4 @@
-// Ports, port lists, and a kernel with one record or count of a table written by hand.
+// Ports, port lists, and a kernel with one record or the counts written by hand.
 use kernel::Kernel;
 use model::Binding;
 use model::Declaration;
@@ -16,8 +16,9 @@ pub fn port(key: u64, realm: u64) -> Port {
     }
 }
 
-// One port as many times as the count says; the entries past a smaller count are that port too.
-pub fn copies(port: Port, count: usize) -> PortList {
+// The port KEY/1 as many times as the count says; the entries past a smaller count are that port too.
+pub fn copies(key: u64, count: usize) -> PortList {
+    let port = port(key, 1);
     PortList {
         ports: [port; 32],
         count: count,
@@ -26,10 +27,10 @@ pub fn copies(port: Port, count: usize) -> PortList {
 
 // The empty list.
 pub fn no_ports() -> PortList {
-    copies(port(0, 0), 0)
+    copies(0, 0)
 }
 
-// The ports of keys 0 to 31 in this realm; a count over 32 is a list that is too long.
+// The ports 0/REALM to 31/REALM, as many as the count says; a count over 32 is a list that is too long.
 pub fn ports(realm: u64, count: usize) -> PortList {
     let mut ports = [Port { key: 0, realm: 0 }; 32];
     let mut i = 0;
@@ -43,54 +44,70 @@ pub fn ports(realm: u64, count: usize) -> PortList {
     }
 }
 
-pub fn node(
+// The kernel with this node at this place; a place past the table is left out.
+pub fn with_node(
+    mut k: Kernel,
+    place: usize,
     present: bool,
     retired: bool,
     phase: Phase,
     restoring: bool,
     parent: Parent,
     generation: u64,
-) -> Node {
-    Node {
-        present: present,
-        retired: retired,
-        phase: phase,
-        restoring: restoring,
-        parent: parent,
-        generation: generation,
-    }
-}
-
-pub fn link(consumer: usize, port: Port, provider: usize, live: bool) -> Link {
-    Link {
-        consumer: consumer,
-        binding: Binding {
-            key: port.key,
-            realm: port.realm,
-            provider: provider,
-        },
-        live: live,
-    }
-}
-
-// The kernel with this node at this place; a place past the table is left out.
-pub fn with_node(mut k: Kernel, place: usize, node: Node) -> Kernel {
+) -> Kernel {
     if place < 64 {
-        k.nodes[place] = node;
+        k.nodes[place] = Node {
+            present: present,
+            retired: retired,
+            phase: phase,
+            restoring: restoring,
+            parent: parent,
+            generation: generation,
+        };
     }
     k
 }
 
-pub fn with_declaration(mut k: Kernel, place: usize, declaration: Declaration) -> Kernel {
+pub fn with_declaration(
+    mut k: Kernel,
+    place: usize,
+    owner: usize,
+    key: u64,
+    realm: u64,
+    provides: bool,
+) -> Kernel {
     if place < 256 {
-        k.declarations[place] = declaration;
+        k.declarations[place] = Declaration {
+            owner: owner,
+            port: Port {
+                key: key,
+                realm: realm,
+            },
+            provides: provides,
+        };
     }
     k
 }
 
-pub fn with_link(mut k: Kernel, place: usize, link: Link) -> Kernel {
+pub fn with_link(
+    mut k: Kernel,
+    place: usize,
+    consumer: usize,
+    key: u64,
+    realm: u64,
+    provider: usize,
+    live: bool,
+) -> Kernel {
     if place < 512 {
-        k.links[place] = link;
+        k.links[place] = Link {
+            consumer: consumer,
+            binding: Binding {
+                key: key,
+                realm: realm,
+                provider: provider,
+            },
+            live: live,
+        };
     }
     k
 }
