@@ -9,6 +9,7 @@ ghost use Rattle.model.specs.Refusals.{Reply};
 ghost use Rattle.model.specs.Sizes.{controller};
 use crate::InsertOutcome;
 use crate::Kernel;
+use crate::soundness::tables_sound;
 use model::Answer;
 use model::Error;
 use model::InsertAnswer;
@@ -25,7 +26,12 @@ impl Kernel {
     ) -> Answer
         ensures { λ r. ⌜ r ≡ answer (ask self (Reply.refused Error.Damaged) (λ T. checkInsert controller T parent dependencies provisions)) ⌝ }
     {
-        if !self.sound() {
+        let nodes = self.nodes;
+        let declarations = self.declarations;
+        let links = self.links;
+        let issued = self.node_count;
+        let count = self.declaration_count;
+        if !tables_sound(nodes, issued, declarations, count, links, self.link_count) {
             return Answer::Refused(Error::Damaged);
         }
         let wanted = dependencies.count;
@@ -33,11 +39,9 @@ impl Kernel {
         if (32 < wanted) | (32 < offered) {
             return Answer::Refused(Error::Capacity);
         }
-        let issued = self.node_count;
         if 64 <= issued {
             return Answer::Refused(Error::Capacity);
         }
-        let nodes = self.nodes;
         let flags = scans::node_flags(nodes);
         let present = flags.present;
         if let Parent::Of(p) = parent {
@@ -45,8 +49,6 @@ impl Kernel {
                 return Answer::Refused(Error::Unknown);
             }
         }
-        let declarations = self.declarations;
-        let count = self.declaration_count;
         let free = scans::check_provisions(provisions, declarations, count, present);
         if !(free & scans::distinct_ports(dependencies)) {
             return Answer::Refused(Error::Conflict);
@@ -79,9 +81,12 @@ impl Kernel {
         let declarations = self.declarations;
         let count = self.declaration_count;
         let more = edits::append_ports(declarations, count, id, dependencies, false);
-        self.declarations = edits::append_ports(more, count + wanted, id, provisions, true);
+        let all = edits::append_ports(more, count + wanted, id, provisions, true);
+        self.declarations = all;
         self.declaration_count = count + wanted + offered;
-        self.nodes[id] = model::new_node(parent);
+        let mut nodes = self.nodes;
+        nodes[id] = model::new_node(parent);
+        self.nodes = nodes;
         self.node_count = id + 1;
         InsertOutcome {
             kernel: self,

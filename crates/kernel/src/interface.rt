@@ -26,7 +26,8 @@ impl Kernel {
                 answer: Answer::Refused(Error::Unknown),
             };
         }
-        let node = self.nodes[id];
+        let nodes = self.nodes;
+        let node = nodes[id];
         let checked = model::checks::check_declare(node);
         if let Answer::Refused(error) = checked {
             return Outcome {
@@ -34,8 +35,7 @@ impl Kernel {
                 answer: Answer::Refused(error),
             };
         }
-        let nodes = self.nodes;
-        let declarations = self.declarations;
+        let mut declarations = self.declarations;
         let count = self.declaration_count;
         if scans::declares_in(declarations, count, id, port, true) {
             return Outcome {
@@ -57,7 +57,8 @@ impl Kernel {
                 answer: Answer::Refused(Error::Capacity),
             };
         }
-        self.declarations[count] = model::provision(id, port);
+        declarations[count] = model::provision(id, port);
+        self.declarations = declarations;
         self.declaration_count = count + 1;
         Outcome {
             kernel: self,
@@ -81,7 +82,8 @@ impl Kernel {
                 answer: Answer::Refused(Error::Unknown),
             };
         }
-        let node = self.nodes[id];
+        let nodes = self.nodes;
+        let node = nodes[id];
         if !node.present {
             return Outcome {
                 kernel: self,
@@ -131,7 +133,8 @@ impl Kernel {
                 answer: Answer::Refused(Error::Unknown),
             };
         }
-        let node = self.nodes[id];
+        let nodes = self.nodes;
+        let node = nodes[id];
         let checked = model::checks::check_configure(node);
         if let Answer::Refused(error) = checked {
             return Outcome {
@@ -156,7 +159,8 @@ impl Kernel {
         let kept = edits::configured_declarations(declarations, count, id);
         let rest = kept.declarations;
         let n = kept.count;
-        self.declarations = edits::append_ports(rest, n, id, list, false);
+        let all = edits::append_ports(rest, n, id, list, false);
+        self.declarations = all;
         self.declaration_count = n + more;
         Outcome {
             kernel: self,

@@ -29,7 +29,8 @@ impl Kernel {
                 answer: Answer::Refused(Error::Unknown),
             };
         }
-        let node = self.nodes[id];
+        let mut nodes = self.nodes;
+        let node = nodes[id];
         let checked = model::checks::check_begin(node);
         if let Answer::Refused(error) = checked {
             return Outcome {
@@ -37,7 +38,6 @@ impl Kernel {
                 answer: Answer::Refused(error),
             };
         }
-        let nodes = self.nodes;
         let declarations = self.declarations;
         let count = self.declaration_count;
         let target = scans::target_table(nodes, declarations, count, id);
@@ -55,13 +55,16 @@ impl Kernel {
                 answer: Answer::Refused(Error::Capacity),
             };
         }
-        self.nodes[id] = model::started_node(node.generation + 1, node);
+        nodes[id] = model::started_node(node.generation + 1, node);
+        self.nodes = nodes;
+        let mut links = self.links;
         let mut i = 0;
         while i < more {
             let b = target.bindings[i];
-            self.links[linked + i] = model::live_link(id, b);
+            links[linked + i] = model::live_link(id, b);
             i += 1;
         }
+        self.links = links;
         self.link_count = linked + more;
         Outcome {
             kernel: self,
@@ -79,12 +82,12 @@ impl Kernel {
         if 64 <= id {
             return Answer::Refused(Error::Unknown);
         }
-        let node = self.nodes[id];
+        let nodes = self.nodes;
+        let node = nodes[id];
         let checked = model::checks::check_loading(node);
         if let Answer::Refused(error) = checked {
             return Answer::Refused(error);
         }
-        let nodes = self.nodes;
         let declarations = self.declarations;
         let count = self.declaration_count;
         let target = scans::target_table(nodes, declarations, count, id);
@@ -110,7 +113,8 @@ impl Kernel {
                 answer: Answer::Refused(Error::Unknown),
             };
         }
-        let node = self.nodes[id];
+        let mut nodes = self.nodes;
+        let node = nodes[id];
         let checked = model::checks::check_loading(node);
         if let Answer::Refused(error) = checked {
             return Outcome {
@@ -118,7 +122,6 @@ impl Kernel {
                 answer: Answer::Refused(error),
             };
         }
-        let nodes = self.nodes;
         let declarations = self.declarations;
         let count = self.declaration_count;
         let target = scans::target_table(nodes, declarations, count, id);
@@ -128,7 +131,8 @@ impl Kernel {
                 answer: Answer::Refused(Error::Changed),
             };
         }
-        self.nodes[id] = model::with_phase(Phase::Active, node);
+        nodes[id] = model::with_phase(Phase::Active, node);
+        self.nodes = nodes;
         Outcome {
             kernel: self,
             answer: Answer::Done,
@@ -151,7 +155,8 @@ impl Kernel {
                 answer: Answer::Refused(Error::Unknown),
             };
         }
-        let node = self.nodes[id];
+        let mut nodes = self.nodes;
+        let node = nodes[id];
         let checked = model::checks::check_running(node);
         if let Answer::Refused(error) = checked {
             return Outcome {
@@ -159,7 +164,8 @@ impl Kernel {
                 answer: Answer::Refused(error),
             };
         }
-        self.nodes[id] = model::with_phase(Phase::Unloading, node);
+        nodes[id] = model::with_phase(Phase::Unloading, node);
+        self.nodes = nodes;
         Outcome {
             kernel: self,
             answer: Answer::Done,
@@ -182,7 +188,8 @@ impl Kernel {
                 answer: Answer::Refused(Error::Unknown),
             };
         }
-        let node = self.nodes[id];
+        let mut nodes = self.nodes;
+        let node = nodes[id];
         let checked = model::checks::check_running(node);
         if let Answer::Refused(error) = checked {
             return Outcome {
@@ -190,7 +197,6 @@ impl Kernel {
                 answer: Answer::Refused(error),
             };
         }
-        let nodes = self.nodes;
         let declarations = self.declarations;
         let count = self.declaration_count;
         let target = scans::target_table(nodes, declarations, count, id);
@@ -200,7 +206,8 @@ impl Kernel {
                 answer: Answer::Refused(Error::Changed),
             };
         }
-        self.nodes[id] = model::with_phase(Phase::Unloading, node);
+        nodes[id] = model::with_phase(Phase::Unloading, node);
+        self.nodes = nodes;
         Outcome {
             kernel: self,
             answer: Answer::Done,
@@ -223,14 +230,16 @@ impl Kernel {
                 answer: Answer::Refused(Error::Unknown),
             };
         }
-        let node = self.nodes[id];
+        let mut nodes = self.nodes;
+        let node = nodes[id];
         if !node.present {
             return Outcome {
                 kernel: self,
                 answer: Answer::Refused(Error::Unknown),
             };
         }
-        self.nodes[id] = model::retired_node(node);
+        nodes[id] = model::retired_node(node);
+        self.nodes = nodes;
         Outcome {
             kernel: self,
             answer: Answer::Done,
@@ -253,7 +262,8 @@ impl Kernel {
                 answer: Answer::Refused(Error::Unknown),
             };
         }
-        let node = self.nodes[id];
+        let mut nodes = self.nodes;
+        let node = nodes[id];
         let checked = model::checks::check_unloading(node);
         if let Answer::Refused(error) = checked {
             return Outcome {
@@ -262,7 +272,6 @@ impl Kernel {
             };
         }
         let new = model::restoring_node(node);
-        let nodes = self.nodes;
         let issued = self.node_count;
         let links = self.links;
         let linked = self.link_count;
@@ -273,7 +282,8 @@ impl Kernel {
                 answer: Answer::Refused(error),
             };
         }
-        self.nodes[id] = new;
+        nodes[id] = new;
+        self.nodes = nodes;
         Outcome {
             kernel: self,
             answer: Answer::Done,
@@ -296,7 +306,8 @@ impl Kernel {
                 answer: Answer::Refused(Error::Unknown),
             };
         }
-        let node = self.nodes[id];
+        let mut nodes = self.nodes;
+        let node = nodes[id];
         let checked = model::checks::check_restoring(node);
         if let Answer::Refused(error) = checked {
             return Outcome {
@@ -306,8 +317,10 @@ impl Kernel {
         }
         let links = self.links;
         let linked = self.link_count;
-        self.links = edits::dead_links(links, linked, id);
-        self.nodes[id] = model::restored_node(node);
+        let dead = edits::dead_links(links, linked, id);
+        self.links = dead;
+        nodes[id] = model::restored_node(node);
+        self.nodes = nodes;
         Outcome {
             kernel: self,
             answer: Answer::Done,
@@ -330,7 +343,8 @@ impl Kernel {
                 answer: Answer::Refused(Error::Unknown),
             };
         }
-        let node = self.nodes[id];
+        let mut nodes = self.nodes;
+        let node = nodes[id];
         let checked = model::checks::check_retired(node);
         if let Answer::Refused(error) = checked {
             return Outcome {
@@ -339,7 +353,6 @@ impl Kernel {
             };
         }
         let new = model::absent_node(node);
-        let nodes = self.nodes;
         let issued = self.node_count;
         let links = self.links;
         let linked = self.link_count;
@@ -350,7 +363,8 @@ impl Kernel {
                 answer: Answer::Refused(error),
             };
         }
-        self.nodes[id] = new;
+        nodes[id] = new;
+        self.nodes = nodes;
         Outcome {
             kernel: self,
             answer: Answer::Done,

@@ -24,7 +24,8 @@ impl Kernel {
         if 64 <= id {
             return false;
         }
-        let node = self.nodes[id];
+        let nodes = self.nodes;
+        let node = nodes[id];
         node.present
     }
 
@@ -38,7 +39,8 @@ impl Kernel {
         if 64 <= id {
             return OptionPhase::None;
         }
-        let node = self.nodes[id];
+        let nodes = self.nodes;
+        let node = nodes[id];
         if !node.present {
             return OptionPhase::None;
         }
@@ -56,7 +58,8 @@ impl Kernel {
         if 64 <= id {
             return false;
         }
-        let node = self.nodes[id];
+        let nodes = self.nodes;
+        let node = nodes[id];
         node.present & node.retired
     }
 
@@ -70,7 +73,8 @@ impl Kernel {
         if 64 <= id {
             return false;
         }
-        let node = self.nodes[id];
+        let nodes = self.nodes;
+        let node = nodes[id];
         node.present & node.restoring
     }
 
@@ -84,7 +88,8 @@ impl Kernel {
         if 64 <= id {
             return OptionGeneration::None;
         }
-        let node = self.nodes[id];
+        let nodes = self.nodes;
+        let node = nodes[id];
         if !node.present {
             return OptionGeneration::None;
         }

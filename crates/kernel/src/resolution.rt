@@ -37,11 +37,11 @@ impl Kernel {
         if 64 <= id {
             return scans::no_target();
         }
-        let node = self.nodes[id];
+        let nodes = self.nodes;
+        let node = nodes[id];
         if !node.present | node.retired {
             return scans::no_target();
         }
-        let nodes = self.nodes;
         let declarations = self.declarations;
         let count = self.declaration_count;
         scans::target_table(nodes, declarations, count, id)

@@ -4,6 +4,9 @@ ghost use Rattle.kernel.specs.Fields.{kernelOf, isSound};
 ghost use Rattle.model.specs.Kernels.{emptyKernel};
 ghost use Rattle.model.specs.Sizes.{controller};
 use crate::Kernel;
+use model::Declaration;
+use model::Link;
+use model::Node;
 
 impl Kernel {
     // The empty kernel.
@@ -30,84 +33,67 @@ impl Kernel {
     pub fn sound(self) -> bool
         ensures { λ r. ⌜ r ≡ isSound self ⌝ }
     {
+        let nodes = self.nodes;
+        let declarations = self.declarations;
+        let links = self.links;
         let n = self.node_count;
         let d = self.declaration_count;
         let l = self.link_count;
-        if !((n <= 64) & (d <= 256) & (l <= 512)) {
-            return false;
-        }
-        let nodes = self.nodes;
-        if !scans::nodes_ok(nodes, n) {
-            return false;
-        }
-        let flags = scans::node_flags(nodes);
-        let present = flags.present;
-        let installed = flags.installed;
-        let serving = flags.serving;
-        let declarations = self.declarations;
-        let mut owner = [0usize; 256];
-        let mut key = [0u64; 256];
-        let mut realm = [0u64; 256];
-        let mut provides = [false; 256];
-        let blank = scans::declaration_columns(
-            declarations,
-            d,
-            &mut owner,
-            &mut key,
-            &mut realm,
-            &mut provides,
-        );
-        if !(blank
-            & scans::owners_issued(&owner, d, n)
-            & scans::one_owner(&owner, &key, &realm, &provides, &present, d)) {
-            return false;
-        }
-        let links = self.links;
-        let mut consumer = [0usize; 512];
-        let mut link_key = [0u64; 512];
-        let mut link_realm = [0u64; 512];
-        let mut provider = [0usize; 512];
-        let found = scans::live_columns(
-            links,
-            l,
-            &mut consumer,
-            &mut link_key,
-            &mut link_realm,
-            &mut provider,
-        );
-        let live = found.count;
-        if !found.blank {
-            return false;
-        }
-        if !scans::links_ok(
-            &owner,
-            &key,
-            &realm,
-            &provides,
-            d,
-            &installed,
-            &serving,
-            &consumer,
-            &link_key,
-            &link_realm,
-            &provider,
-            live,
-        ) {
-            return false;
-        }
-        let ordered = scans::links_ordered(&consumer, &provider, live);
-        let covered = scans::covered(
-            &owner,
-            &key,
-            &realm,
-            &provides,
-            d,
-            &installed,
-            &consumer,
-            &link_key,
-            &link_realm,
-            live,
-        );
-        ordered & covered
+        tables_sound(nodes, n, declarations, d, links, l)
     }
+}
+
+// Whether the kernel of these tables and counts is sound. A function of the tables, so that a command that has them in locals puts no kernel together for it.
+pub fn tables_sound(
+    nodes: [Node; 64],
+    n: usize,
+    declarations: [Declaration; 256],
+    d: usize,
+    links: [Link; 512],
+    l: usize,
+) -> bool
+    ensures { λ r. ⌜ r ≡ isSound (record { nodes = nodes; «node_count» = n; declarations = declarations; «declaration_count» = d; links = links; «link_count» = l }) ⌝ }
+{
+    if !((n <= 64) & (d <= 256) & (l <= 512)) {
+        return false;
+    }
+    let mut present = [false; 64];
+    let mut installed = [false; 64];
+    let mut serving = [false; 64];
+    if !scans::nodes_ok(nodes, n, &mut present, &mut installed, &mut serving) {
+        return false;
+    }
+    let mut owner = [0usize; 256];
+    let mut key = [0u64; 256];
+    let mut realm = [0u64; 256];
+    let mut provides = [false; 256];
+    let blank = scans::declaration_columns(
+        declarations,
+        d,
+        &mut owner,
+        &mut key,
+        &mut realm,
+        &mut provides,
+    );
+    if !(blank
+        & scans::owners_issued(&owner, d, n)
+        & scans::one_owner(&owner, &key, &realm, &provides, &present, d)) {
+        return false;
+    }
+    let mut met = [false; 256];
+    if !scans::links_ok(
+        links,
+        l,
+        &owner,
+        &key,
+        &realm,
+        &provides,
+        d,
+        &installed,
+        &serving,
+        &mut met,
+    ) {
+        return false;
+    }
+    scans::covered(&owner, &provides, d, &installed, &met)
 }

@@ -1,5 +1,6 @@
 // The records of the lifecycle kernel, its answers, and the functions on one record or one enum.
 ghost use mathlib.Core.Path.{_≡_};
+ghost use mathlib.Core.Bool.{_&&_};
 ghost use Rattle.model.specs.Records.{
   isInactive,
   isLoading,
@@ -325,6 +326,39 @@ pub fn is_blank_link(link: Link) -> bool
 {
     let b = link.binding;
     (link.consumer == 0) & (b.key == 0) & (b.realm == 0) & (b.provider == 0) & !link.live
+}
+
+// A declaration that is blank exactly when both are.
+pub fn either_declaration(a: Declaration, b: Declaration) -> Declaration
+    ensures { λ r. ⌜ isBlankDeclaration r ≡ isBlankDeclaration a && isBlankDeclaration b ⌝ }
+{
+    let p = a.port;
+    let q = b.port;
+    Declaration {
+        owner: a.owner | b.owner,
+        port: Port {
+            key: p.key | q.key,
+            realm: p.realm | q.realm,
+        },
+        provides: a.provides | b.provides,
+    }
+}
+
+// A link that is blank exactly when both are.
+pub fn either_link(a: Link, b: Link) -> Link
+    ensures { λ r. ⌜ isBlankLink r ≡ isBlankLink a && isBlankLink b ⌝ }
+{
+    let p = a.binding;
+    let q = b.binding;
+    Link {
+        consumer: a.consumer | b.consumer,
+        binding: Binding {
+            key: p.key | q.key,
+            realm: p.realm | q.realm,
+            provider: p.provider | q.provider,
+        },
+        live: a.live | b.live,
+    }
 }
 
 pub fn dependency(owner: usize, port: Port) -> Declaration

@@ -69,7 +69,8 @@ fn issued(answer: InsertAnswer) -> u64 {
     }
 }
 
-// Plays on until the log ends, the answers are full, a byte outside 01 to 10 (11) or cut operands (12).
+// Plays on until the log ends, the answers are full, a byte outside 01 to 10 (11) or cut operands (12). A refused command
+// hands the kernel back unchanged, so it is not copied back.
 pub fn play(player: Player, log: &[u8], answers: &mut [u8]) -> Player {
     let mut kernel = player.kernel;
     let mut dependencies = player.dependencies;
@@ -111,10 +112,12 @@ pub fn play(player: Player, log: &[u8], answers: &mut [u8]) -> Player {
             0x03 => {
                 let parent = log::parent(operands);
                 let outcome = kernel.insert(parent, dependencies, provisions);
-                kernel = outcome.kernel;
                 let inserted = outcome.answer;
                 answer = model::insert_answer_number(inserted);
                 detail = issued(inserted);
+                if answer == 0 {
+                    kernel = outcome.kernel;
+                }
                 dependencies.count = 0;
                 provisions.count = 0;
             }
@@ -123,10 +126,12 @@ pub fn play(player: Player, log: &[u8], answers: &mut [u8]) -> Player {
                     0x0C => kernel.compact_bindings(),
                     _ => kernel.compact_declarations(),
                 };
-                kernel = outcome.kernel;
                 let compacted = outcome.answer;
                 answer = model::answer_number(compacted);
                 detail = outcome.removed as u64;
+                if answer == 0 {
+                    kernel = outcome.kernel;
+                }
             }
             _ => {
                 let outcome = match byte {
@@ -142,9 +147,11 @@ pub fn play(player: Player, log: &[u8], answers: &mut [u8]) -> Player {
                     0x0F => kernel.release_provision(id, log::port_at(operands, 1)),
                     _ => kernel.configure_pending_dependencies(id, dependencies),
                 };
-                kernel = outcome.kernel;
                 let done = outcome.answer;
                 answer = model::answer_number(done);
+                if answer == 0 {
+                    kernel = outcome.kernel;
+                }
                 if byte == 0x10 {
                     dependencies.count = 0;
                     provisions.count = 0;

@@ -2,13 +2,13 @@
 use mathlib.Core.Path.{_≡_}
 use mathlib.Core.Bool.{cond}
 use mathlib.Core.List.{List}
-use Prim.Native.Nat.{_%_, _*_, _+_, _<_, _≤_, suc, zero, ℕ}
+use Prim.Native.Nat.{_%_, _*_, _+_, _/_, _<_, _≤_, suc, zero, ℕ}
 use lib.Dec.{eqb}
 use lib.ListN.{getD, length}
 
--- the bucket of an owner and a port; 61 spreads keys that are multiples of 64
+-- the bucket of an owner and a port: residues of a prime, spread by a multiplication (Knuth), so that keys with a common factor other than that prime fall into many buckets
 unfoldable pub bucketOf : ℕ → ℕ → ℕ → ℕ
-bucketOf owner key realm = (owner % 64 * 5 + (key % 61 + realm % 61 * 7)) % 64
+bucketOf owner key realm = (owner % 64 * 5 + (key % 65521 + realm % 65521 * 7)) * 40503 % 65536 / 1024
 
 -- the bucket of entry i of three columns; with no owners, that of its port
 abbrev pub bucketAt : List ℕ → List ℕ → List ℕ → ℕ → ℕ

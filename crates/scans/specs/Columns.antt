@@ -5,8 +5,6 @@ use Prim.Native.Nat.{suc, zero, ℕ}
 use lib.Dec.{ltb}
 use lib.ListN.{getD}
 use Rattle.model.specs.declared.Declaration.{Declaration}
-use Rattle.model.specs.declared.Link.{Link}
-use Rattle.model.specs.Records.{liveLink}
 
 -- n rows, from place i on
 unfoldable pub rowsFrom : {A : Type 0} → ℕ → ℕ → (ℕ → A) → List A
@@ -21,18 +19,6 @@ declarationAt owner key realm provides i = record { owner = getD owner i 0; port
 unfoldable pub declarationsOf : ℕ → List ℕ → List ℕ → List ℕ → List Bool → List Declaration
 declarationsOf n owner key realm provides = rowsFrom 0 n (declarationAt owner key realm provides)
 
--- the live link at a place of four columns
-abbrev pub linkAt : List ℕ → List ℕ → List ℕ → List ℕ → ℕ → Link
-linkAt consumer key realm provider i = liveLink (getD consumer i 0) (record { key = getD key i 0; realm = getD realm i 0; provider = getD provider i 0 })
-
--- the first n live links of four columns
-unfoldable pub linksOf : ℕ → List ℕ → List ℕ → List ℕ → List ℕ → List Link
-linksOf n consumer key realm provider = rowsFrom 0 n (linkAt consumer key realm provider)
-
 -- the yes/no of an identity in a column of n; no past the last
 abbrev pub flag : ℕ → List Bool → ℕ → Bool
 flag n fs id = ltb id n && getD fs id false
-
--- both ends of a link are below n
-abbrev pub endsBelow : ℕ → Link → Bool
-endsBelow n l = ltb (l .consumer) n && ltb (l .binding .provider) n

@@ -5,12 +5,12 @@ ghost use Prim.Native.Nat.{_≤_, _<_};
 ghost use lib.ListN.{length, replicate};
 ghost use Rattle.scans.specs.Chains.{bucketOf, bucketAt, Chained};
 
-// The bucket, one of 64, of an owner and a port; 61 spreads keys that are multiples of 64.
+// The bucket, one of 64, of an owner and a port: residues of a prime, spread by a multiplication (Knuth), so that keys with a common factor other than that prime fall into many buckets.
 pub fn bucket_of(owner: usize, key: u64, realm: u64) -> usize
     ensures { λ r. ⌜ (r ≡ bucketOf owner key realm) × (r < 64) ⌝ }
 {
-    let port = (key % 61 + realm % 61 * 7) as usize;
-    (owner % 64 * 5 + port) % 64
+    let port = (key % 65521 + realm % 65521 * 7) as usize;
+    (owner % 64 * 5 + port) * 40503 % 65536 / 1024
 }
 
 // Chains the declarations below the count by the bucket of their port. In a chain c stands for entry c - 1, and 0 for none; each leads to an earlier one.
@@ -50,30 +50,6 @@ pub fn chain_declarations(
     let mut i = 0;
     while i < count {
         let o = owner[i];
-        let k = key[i];
-        let r = realm[i];
-        let b = bucket_of(o, k, r);
-        next[i] = first[b];
-        first[b] = i + 1;
-        i += 1;
-    }
-}
-
-// Chains the live links below the count by the bucket of their consumer and port.
-pub fn chain_links(
-    consumer: &[usize; 512],
-    key: &[u64; 512],
-    realm: &[u64; 512],
-    count: usize,
-    first: &mut [usize; 64],
-    next: &mut [usize; 512],
-)
-    requires { ⌜ (count ≤ 512) × (now first ≡ replicate 64 0) × (length (now next) ≡ 512) ⌝ }
-    ensures { λ r. ⌜ Chained (bucketAt (now (consumer .entry)) (now (key .entry)) (now (realm .entry))) 512 count (now (first .exit)) (now (next .exit)) ⌝ }
-{
-    let mut i = 0;
-    while i < count {
-        let o = consumer[i];
         let k = key[i];
         let r = realm[i];
         let b = bucket_of(o, k, r);

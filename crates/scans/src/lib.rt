@@ -11,7 +11,6 @@ mod resolution;
 mod updates;
 
 pub use columns::declaration_columns;
-pub use columns::live_columns;
 pub use declarations::check_provisions;
 pub use declarations::declares_in;
 pub use declarations::distinct_ports;
@@ -25,7 +24,6 @@ pub use nodes::nodes_ok;
 pub use nodes::places_of;
 pub use points::covered;
 pub use points::links_ok;
-pub use points::links_ordered;
 pub use points::one_owner;
 pub use points::owners_issued;
 pub use resolution::committed_in;
@@ -40,12 +38,6 @@ pub struct NodeFlags {
     pub installed: [bool; 64],
     pub serving: [bool; 64],
     pub providing: [bool; 64],
-}
-
-// How many links are live, and whether those past the count are blank.
-pub struct LiveLinks {
-    pub count: usize,
-    pub blank: bool,
 }
 
 // Identities in order, and how many; 0 past the count.

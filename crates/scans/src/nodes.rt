@@ -1,10 +1,10 @@
 // The node table: whether it is sound, and what is asked of each node.
 ghost use mathlib.Core.Path.{_≡_};
-ghost use mathlib.Core.Bool.{_&&_};
+ghost use mathlib.Core.Bool.{_&&_, false, true};
 ghost use mathlib.Core.List.{map};
-ghost use lib.ListN.{take, drop};
+ghost use lib.ListN.{replicate, take, drop};
 ghost use Rattle.model.specs.Lists.{all, any, allAt, places};
-ghost use Rattle.model.specs.Records.{isBlankNode, isChildOf};
+ghost use Rattle.model.specs.Records.{isBlankNode, isChildOf, isInstalled, isServing};
 ghost use Rattle.model.specs.Soundness.{parentOk, nodeOk};
 ghost use Rattle.scans.specs.Answers.{flagsOf, identities};
 use crate::Identities;
@@ -13,9 +13,16 @@ use crate::limits::at_most;
 use model::Node;
 use model::Parent;
 
-// Whether each node below the count is consistent, and a present one's parent present and smaller, and the nodes past it are blank.
-pub fn nodes_ok(nodes: [Node; 64], count: usize) -> bool
-    ensures { λ r. ⌜ r ≡ allAt (nodeOk (take count nodes)) 0 (take count nodes) && all isBlankNode (drop count nodes) ⌝ }
+// Whether each node below the count is consistent, and a present one's parent present and smaller, and the nodes past it are blank. Where so, it has written which nodes are present, installed and serving: a blank one is none of them.
+pub fn nodes_ok(
+    nodes: [Node; 64],
+    count: usize,
+    present: &mut [bool; 64],
+    installed: &mut [bool; 64],
+    serving: &mut [bool; 64],
+) -> bool
+    requires { ⌜ (now present ≡ replicate 64 false) × (now installed ≡ replicate 64 false) × (now serving ≡ replicate 64 false) ⌝ }
+    ensures { λ r. ⌜ (r ≡ allAt (nodeOk (take count nodes)) 0 (take count nodes) && all isBlankNode (drop count nodes)) × (r ≡ true → (now (present .exit) ≡ map (λ n. n .present) nodes) × (now (installed .exit) ≡ map isInstalled nodes) × (now (serving .exit) ≡ map isServing nodes)) ⌝ }
 {
     let end = at_most(count, 64);
     let mut i = 0;
@@ -36,6 +43,9 @@ pub fn nodes_ok(nodes: [Node; 64], count: usize) -> bool
                 }
             }
         }
+        present[i] = node.present;
+        installed[i] = model::is_installed(node);
+        serving[i] = model::is_serving(node);
         i += 1;
     }
     while i < 64 {

@@ -1,20 +1,22 @@
 // The points of soundness over the columns.
 ghost use mathlib.Core.Path.{_≡_};
-ghost use mathlib.Core.Bool.{Bool, true};
+ghost use mathlib.Core.Bool.{Bool, true, false, _&&_, _||_};
 ghost use mathlib.Core.List.{List, []};
-ghost use Prim.Native.Nat.{ℕ};
-ghost use lib.ListN.{take};
+ghost use Prim.Native.Nat.{ℕ, _<_};
+ghost use lib.ListN.{length, take, drop, getD, replicate};
 ghost use Rattle.model.specs.Lists.{all, any};
-ghost use Rattle.model.specs.Soundness.{hasOwner, sameOwner, isDeclaration, linkOk, ordered, linksTo, isCovered};
-ghost use Rattle.scans.specs.Columns.{declarationsOf, linksOf, flag, endsBelow};
+ghost use Rattle.model.specs.Records.{isBlankLink};
+ghost use Rattle.model.specs.Soundness.{hasOwner, sameOwner, isDeclaration, linkOk, ordered, isCovered};
+ghost use Rattle.scans.specs.Columns.{declarationAt, declarationsOf, flag};
+ghost use Rattle.scans.specs.Marks.{meets, marked, unmarked};
 ghost use Rattle.scans.specs.Chains.{bucketAt, Chained};
 use crate::chains::bucket_of;
 use crate::chains::chain_declarations;
-use crate::chains::chain_links;
 use crate::chains::chain_ports;
 use crate::limits::at_most;
 use crate::limits::flag_at;
 use model::Declaration;
+use model::Link;
 use model::Port;
 
 // Whether each owner below the count is an issued identity.
@@ -131,8 +133,98 @@ pub fn declared(
     false
 }
 
-// Whether each live link's ends are installed, its provider serving, and both declared its port.
+// Whether the columns have a dependency of this owner and port, each of which is marked as met: only their chain is read.
+pub fn meet(
+    owner: &[usize; 256],
+    key: &[u64; 256],
+    realm: &[u64; 256],
+    provides: &[bool; 256],
+    count: usize,
+    first: &[usize; 64],
+    next: &[usize; 256],
+    o: usize,
+    port: Port,
+    met: &mut [bool; 256],
+) -> bool
+    requires { ⌜ Chained (bucketAt (now owner) (now key) (now realm)) 256 count (now first) (now next) × (length (now met) ≡ 256) ⌝ }
+    ensures { λ r. ⌜ (r ≡ any (isDeclaration o port false) (take count (declarationsOf 256 (now (owner .entry)) (now (key .entry)) (now (realm .entry)) (now (provides .entry))))) × (length (now (met .exit)) ≡ 256) × ((i : ℕ) → i < count → getD (now (met .exit)) i false ≡ isDeclaration o port false (declarationAt (now (owner .entry)) (now (key .entry)) (now (realm .entry)) (now (provides .entry)) i) || getD (now (met .entry)) i false) ⌝ }
+{
+    let b = bucket_of(o, port.key, port.realm);
+    let mut found = false;
+    let mut c = first[b];
+    while 0 < c {
+        let i = c - 1;
+        let same = (key[i] == port.key) & (realm[i] == port.realm);
+        if (owner[i] == o) & same & !provides[i] {
+            met[i] = true;
+            found = true;
+        }
+        c = next[i];
+    }
+    found
+}
+
+// Whether a live link's ends are installed, its provider serving, both declared its port, and its consumer is no provider of a live link so far:
+// its provider is marked as seen, and its consumer's dependencies on the port as met.
+pub fn link_ok(
+    owner: &[usize; 256],
+    key: &[u64; 256],
+    realm: &[u64; 256],
+    provides: &[bool; 256],
+    count: usize,
+    first: &[usize; 64],
+    next: &[usize; 256],
+    installed: &[bool; 64],
+    serving: &[bool; 64],
+    link: Link,
+    seen: &mut [bool; 64],
+    met: &mut [bool; 256],
+) -> bool
+    requires { ⌜ Chained (bucketAt (now owner) (now key) (now realm)) 256 count (now first) (now next) × (length (now seen) ≡ 64) × (length (now met) ≡ 256) ⌝ }
+    ensures { λ r. ⌜ (r ≡ linkOk (flag 64 (now (installed .entry))) (flag 64 (now (serving .entry))) (take count (declarationsOf 256 (now (owner .entry)) (now (key .entry)) (now (realm .entry)) (now (provides .entry)))) link && unmarked (marked (now (seen .entry)) link) link) × (r ≡ true → (now (seen .exit) ≡ marked (now (seen .entry)) link) × (length (now (seen .exit)) ≡ 64) × (length (now (met .exit)) ≡ 256) × ((i : ℕ) → i < count → getD (now (met .exit)) i false ≡ meets (declarationAt (now (owner .entry)) (now (key .entry)) (now (realm .entry)) (now (provides .entry)) i) link || getD (now (met .entry)) i false)) ⌝ }
+{
+    if !link.live {
+        return true;
+    }
+    let b = link.binding;
+    let c = link.consumer;
+    let p = b.provider;
+    if !(flag_at(installed, c) & flag_at(serving, p)) {
+        return false;
+    }
+    let port = model::port_of(b);
+    let wanted = meet(
+        owner,
+        key,
+        realm,
+        provides,
+        count,
+        first,
+        next,
+        c,
+        port,
+        met,
+    );
+    let offered = declared(
+        owner,
+        key,
+        realm,
+        provides,
+        count,
+        first,
+        next,
+        p,
+        port,
+        true,
+    );
+    seen[p] = true;
+    wanted & offered & !seen[c]
+}
+
+// Whether each link below the count is ok and the links past it are blank; the dependencies that a live link meets are marked.
 pub fn links_ok(
+    links: [Link; 512],
+    linked: usize,
     owner: &[usize; 256],
     key: &[u64; 256],
     realm: &[u64; 256],
@@ -140,29 +232,21 @@ pub fn links_ok(
     count: usize,
     installed: &[bool; 64],
     serving: &[bool; 64],
-    consumer: &[usize; 512],
-    link_key: &[u64; 512],
-    link_realm: &[u64; 512],
-    provider: &[usize; 512],
-    live: usize,
+    met: &mut [bool; 256],
 ) -> bool
-    ensures { λ r. ⌜ r ≡ all (linkOk (flag 64 (now (installed .entry))) (flag 64 (now (serving .entry))) (take count (declarationsOf 256 (now (owner .entry)) (now (key .entry)) (now (realm .entry)) (now (provides .entry))))) (take live (linksOf 512 (now (consumer .entry)) (now («link_key» .entry)) (now («link_realm» .entry)) (now (provider .entry)))) ⌝ }
+    requires { ⌜ now met ≡ replicate 256 false ⌝ }
+    ensures { λ r. ⌜ (r ≡ (all (linkOk (flag 64 (now (installed .entry))) (flag 64 (now (serving .entry))) (take count (declarationsOf 256 (now (owner .entry)) (now (key .entry)) (now (realm .entry)) (now (provides .entry))))) (take linked links) && ordered (take linked links)) && all isBlankLink (drop linked links)) × (r ≡ true → (i : ℕ) → i < count → i < 256 → getD (now (met .exit)) i false ≡ any (meets (declarationAt (now (owner .entry)) (now (key .entry)) (now (realm .entry)) (now (provides .entry)) i)) (take linked links)) ⌝ }
 {
     let size = at_most(count, 256);
     let mut first = [0usize; 64];
     let mut next = [0usize; 256];
     chain_declarations(owner, key, realm, size, &mut first, &mut next);
-    let end = at_most(live, 512);
+    let end = at_most(linked, 512);
+    let mut seen = [false; 64];
     let mut i = 0;
     while i < end {
-        let c = consumer[i];
-        let p = provider[i];
-        let port = Port {
-            key: link_key[i],
-            realm: link_realm[i],
-        };
-        let ends = flag_at(installed, c) & flag_at(serving, p);
-        let wanted = declared(
+        let l = links[i];
+        if !link_ok(
             owner,
             key,
             realm,
@@ -170,109 +254,42 @@ pub fn links_ok(
             size,
             &first,
             &next,
-            c,
-            port,
-            false,
-        );
-        let offered = declared(
-            owner,
-            key,
-            realm,
-            provides,
-            size,
-            &first,
-            &next,
-            p,
-            port,
-            true,
-        );
-        if !(ends & wanted & offered) {
+            installed,
+            serving,
+            l,
+            &mut seen,
+            met,
+        ) {
             return false;
         }
         i += 1;
     }
-    true
-}
-
-// Whether no live link's provider is the consumer of a live link at its place or later: providers met are marked.
-pub fn links_ordered(consumer: &[usize; 512], provider: &[usize; 512], live: usize) -> bool
-    requires { ⌜ ((key realm : List ℕ) → all (endsBelow 64) (take live (linksOf 512 (now consumer) key realm (now provider))) ≡ true) ⌝ }
-    ensures { λ r. ⌜ ((key realm : List ℕ) → r ≡ ordered (take live (linksOf 512 (now (consumer .entry)) key realm (now (provider .entry))))) ⌝ }
-{
-    let end = at_most(live, 512);
-    let mut met = [false; 64];
-    let mut i = 0;
-    while i < end {
-        let p = provider[i];
-        let c = consumer[i];
-        met[p] = true;
-        if met[c] {
-            return false;
-        }
+    let mut rest = model::blank_link();
+    while i < 512 {
+        let l = links[i];
+        rest = model::either_link(rest, l);
         i += 1;
     }
-    true
+    model::is_blank_link(rest)
 }
 
-// Whether the columns have a live link of this consumer and port: only their chain is read.
-pub fn linked(
-    consumer: &[usize; 512],
-    key: &[u64; 512],
-    realm: &[u64; 512],
-    live: usize,
-    first: &[usize; 64],
-    next: &[usize; 512],
-    o: usize,
-    port: Port,
-) -> bool
-    requires { ⌜ Chained (bucketAt (now consumer) (now key) (now realm)) 512 live (now first) (now next) ⌝ }
-    ensures { λ r. ⌜ ((provider : List ℕ) → r ≡ any (linksTo o port) (take live (linksOf 512 (now (consumer .entry)) (now (key .entry)) (now (realm .entry)) provider))) ⌝ }
-{
-    let b = bucket_of(o, port.key, port.realm);
-    let mut c = first[b];
-    while 0 < c {
-        let i = c - 1;
-        let same = (key[i] == port.key) & (realm[i] == port.realm);
-        if (consumer[i] == o) & same {
-            return true;
-        }
-        c = next[i];
-    }
-    false
-}
-
-// Whether each dependency of an installed owner has a live link of that consumer with that port.
+// Whether each dependency of an installed owner is met.
 pub fn covered(
     owner: &[usize; 256],
-    key: &[u64; 256],
-    realm: &[u64; 256],
     provides: &[bool; 256],
     count: usize,
     installed: &[bool; 64],
-    consumer: &[usize; 512],
-    link_key: &[u64; 512],
-    link_realm: &[u64; 512],
-    live: usize,
+    met: &[bool; 256],
 ) -> bool
-    ensures { λ r. ⌜ ((provider : List ℕ) → r ≡ all (isCovered (flag 64 (now (installed .entry))) (take live (linksOf 512 (now (consumer .entry)) (now («link_key» .entry)) (now («link_realm» .entry)) provider))) (take count (declarationsOf 256 (now (owner .entry)) (now (key .entry)) (now (realm .entry)) (now (provides .entry))))) ⌝ }
+    ensures { λ r. ⌜ ((key realm : List ℕ) (ls : List Link) → ((i : ℕ) → i < count → i < 256 → getD (now (met .entry)) i false ≡ any (meets (declarationAt (now (owner .entry)) key realm (now (provides .entry)) i)) ls) → r ≡ all (isCovered (flag 64 (now (installed .entry))) ls) (take count (declarationsOf 256 (now (owner .entry)) key realm (now (provides .entry))))) ⌝ }
 {
-    let size = at_most(live, 512);
-    let mut first = [0usize; 64];
-    let mut next = [0usize; 512];
-    chain_links(consumer, link_key, link_realm, size, &mut first, &mut next);
     let end = at_most(count, 256);
     let mut i = 0;
     while i < end {
         let o = owner[i];
         let here = flag_at(installed, o);
-        if !provides[i] & here {
-            let port = Port {
-                key: key[i],
-                realm: realm[i],
-            };
-            if !linked(consumer, link_key, link_realm, size, &first, &next, o, port) {
-                return false;
-            }
+        if !provides[i] & here & !met[i] {
+            return false;
         }
         i += 1;
     }

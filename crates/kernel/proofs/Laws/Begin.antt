@@ -37,24 +37,12 @@ missing false c h = rw h
 
 -- ---- links written one by one
 
-abbrev pub nodesPut : Kernel → List Node → Kernel
-nodesPut k ns = record { nodes = ns; «node_count» = k .«node_count»; declarations = k .declarations; «declaration_count» = k .«declaration_count»; links = k .links; «link_count» = k .«link_count» }
+-- the links below the count and behind them the live links of the first i bindings
+abbrev pub linkedTo : List Link → ℕ → ℕ → List Binding → ℕ → List Link
+linkedTo ls id count bs i = padded 512 blankLink (take count ls ++ map (liveLink id) (take i bs))
 
-abbrev pub linkCountPut : Kernel → ℕ → Kernel
-linkCountPut k n = record { nodes = k .nodes; «node_count» = k .«node_count»; declarations = k .declarations; «declaration_count» = k .«declaration_count»; links = k .links; «link_count» = n }
-
-abbrev pub linksPut : Kernel → List Link → Kernel
-linksPut k ls = record { nodes = k .nodes; «node_count» = k .«node_count»; declarations = k .declarations; «declaration_count» = k .«declaration_count»; links = ls; «link_count» = k .«link_count» }
-
--- the kernel with the live links of the first i bindings behind its links below the count
-abbrev pub linkedTo : Kernel → ℕ → ℕ → List Binding → ℕ → Kernel
-linkedTo k id count bs i = linksPut k (padded 512 blankLink (take count (k .links) ++ map (liveLink id) (take i bs)))
-
-pub linked-next : (k self : Kernel) (id count i : ℕ) (bs : List Binding) → length (k .links) ≡ 512 → count + i < 512 → i < length bs → self ≡ linkedTo k id count bs i → linksPut self (set (self .links) (count + i) (liveLink id (getD bs i blankBinding))) ≡ linkedTo k id count bs (i + 1)
-linked-next k self id count i bs full l m h =
-    let held : length (take count (k .links)) ≡ count = length-take-le count (k .links) (omega arith) in
-    ap (λ (x : Kernel). linksPut x (set (x .links) (count + i) (liveLink id (getD bs i blankBinding)))) h
-    ∙ ap (λ (ls : List Link). linksPut k ls) (appended-next (liveLink id) 512 count i blankLink _ (take count (k .links)) bs blankBinding held l m refl)
+pub linked-next : (ls now : List Link) (id count i : ℕ) (bs : List Binding) → length ls ≡ 512 → count + i < 512 → i < length bs → now ≡ linkedTo ls id count bs i → set now (count + i) (liveLink id (getD bs i blankBinding)) ≡ linkedTo ls id count bs (i + 1)
+linked-next ls now id count i bs full l m h = appended-next (liveLink id) 512 count i blankLink now (take count ls) bs blankBinding (length-take-le count ls (omega arith)) l m h
 
 -- the links are no more than their size
 pub links-within : (k : Kernel) (z : Sized controller (layoutOf k)) (s : Bool) (e : s ≡ isSound k) (t : not s ≡ false) → k .«link_count» ≤ 512
@@ -77,9 +65,9 @@ module _ (k : Kernel) (z : Sized controller (layoutOf k)) (s : Bool) (e : s ≡ 
   -- ---- the links
 
   -- before the first
-  pub linked-start : (ns : List Node) (bs : List Binding) → nodesPut k ns ≡ linkedTo (nodesPut k ns) id (k .«link_count») bs 0
+  pub linked-start : (bs : List Binding) → k .links ≡ linkedTo (k .links) id (k .«link_count») bs 0
   unfolding tablesOf
-  linked-start ns bs = ap (λ (ls : List Link). linksPut (nodesPut k ns) ls) (sym (links-laid k z s e t) ∙ ap (padded 512 blankLink) (sym (append-nil (take (k .«link_count») (k .links)))))
+  linked-start bs = sym (links-laid k z s e t) ∙ ap (padded 512 blankLink) (sym (append-nil (take (k .«link_count») (k .links))))
 
   module _ (r : TargetBindings) (h : Held r (target (tablesOf (layoutOf k)) id)) where
     pub target-missing : isNone (target (tablesOf (layoutOf k)) id) ≡ not (r .there)
@@ -104,9 +92,9 @@ module _ (k : Kernel) (z : Sized controller (layoutOf k)) (s : Bool) (e : s ≡ 
 
     -- ---- the kernel that begin leaves
 
-    pub begun-laid : (n : Node) → n ≡ begunNode (getD (k .nodes) id blankNode) → not ((getD (k .nodes) id blankNode) .present) ≡ false → (self : Kernel) (i : ℕ) → i ≡ r .count → self ≡ linkedTo (nodesPut k (set (k .nodes) id n)) id (k .«link_count») (r .bindings) i → linkCountPut self (k .«link_count» + r .count) ≡ kernelOf (layOut controller (begun (tablesOf (layoutOf k)) id))
+    pub begun-laid : (n : Node) → n ≡ begunNode (getD (k .nodes) id blankNode) → not ((getD (k .nodes) id blankNode) .present) ≡ false → (now : List Link) (i : ℕ) → i ≡ r .count → now ≡ linkedTo (k .links) id (k .«link_count») (r .bindings) i → record { nodes = set (k .nodes) id n; «node_count» = k .«node_count»; declarations = k .declarations; «declaration_count» = k .«declaration_count»; links = now; «link_count» = k .«link_count» + r .count } ≡ kernelOf (layOut controller (begun (tablesOf (layoutOf k)) id))
     unfolding layOut tablesOf
-    begun-laid n f p self i l g =
+    begun-laid n f p now i l g =
         let T : Tables = tablesOf (layoutOf k) in
         let new : List Link = map (liveLink id) (bindings (target T id)) in
         let v : Node = begunNode (nodeAt (T .nodes) id) in
@@ -117,6 +105,6 @@ module _ (k : Kernel) (z : Sized controller (layoutOf k)) (s : Bool) (e : s ≡ 
         let c : k .declarations ≡ padded 256 blankDeclaration (T .declarations) = sym (declarations-laid k z s e t) in
         let d : k .«declaration_count» ≡ length (T .declarations) = sym (declaration-count-is k z s e t) in
         let taken : take i (r .bindings) ≡ bindings (target T id) = ap (λ (m : ℕ). take m (r .bindings)) l ∙ target-taken in
-        let ls : padded 512 blankLink (T .links ++ map (liveLink id) (take i (r .bindings))) ≡ padded 512 blankLink (T .links ++ new) = ap (λ (bs : List Binding). padded 512 blankLink (T .links ++ map (liveLink id) bs)) taken in
+        let ls : now ≡ padded 512 blankLink (T .links ++ new) = g ∙ ap (λ (bs : List Binding). padded 512 blankLink (T .links ++ map (liveLink id) bs)) taken in
         let m : k .«link_count» + r .count ≡ length (T .links ++ new) = sym (length-append (T .links) new ∙ rw (link-count-is k z s e t, length-map (bindings (target T id)) (liveLink id), h .counted)) in
-        ap (λ (x : Kernel). linkCountPut x (k .«link_count» + r .count)) g ∙ (λ j. record { nodes = a j; «node_count» = b j; declarations = c j; «declaration_count» = d j; links = ls j; «link_count» = m j })
+        λ j. record { nodes = a j; «node_count» = b j; declarations = c j; «declaration_count» = d j; links = ls j; «link_count» = m j }

@@ -1,92 +1,106 @@
--- What each scan of the entry test answers, as the piece of soundness that it is.
+-- The entry test: what each scan answers decides soundness, or leaves it to the scans after it.
 use mathlib.Core.Path.{_∙_, _≡_, ap, refl, sym}
-use mathlib.Core.Bool.{Bool, and-false, false, true}
+use mathlib.Core.Bool.{Bool, _&&_, false, true}
 use mathlib.Core.List.{List, map}
 use Prim.Native.Nat.{_≤_, ℕ}
 use native.Mathlib.Omega.{arith}
-use lib.Dec.{ltb}
+use lib.Dec.{leb}
 use lib.ListN.{drop, length, take}
 use lib.Seq.{length-take-le}
+use borrow.Author.Tests.{leb-true}
 use Rattle.kernel.specs.declared.Kernel.{Kernel}
 use Rattle.model.specs.declared.Declaration.{Declaration}
 use Rattle.model.specs.declared.Link.{Link}
 use Rattle.model.specs.declared.Node.{Node}
-use Rattle.kernel.specs.Fields.{layoutOf}
-use Rattle.model.proofs.Laws.Booleans.{Each, and-i, each, imp-e}
-use Rattle.model.proofs.Laws.Live.{all-kept, any-kept, onward-kept}
+use Rattle.kernel.specs.Fields.{isSound, layoutOf}
+use Rattle.model.proofs.Laws.Booleans.{and-i, and-l, and-r}
+use Rattle.model.proofs.Laws.Entry.{sound-rest, unsound-by}
 use Rattle.model.specs.Layouts.{Sized, tablesOf}
-use Rattle.model.specs.Lists.{_⇒_, all, allAt, conj, keep}
-use Rattle.model.specs.Records.{blankNode, isBlankNode}
+use Rattle.model.specs.Lists.{all, allAt}
+use Rattle.model.specs.Records.{blankNode, isBlankDeclaration, isBlankLink, isBlankNode, isInstalled, isServing}
 use Rattle.model.specs.Sizes.{controller}
-use Rattle.model.specs.Soundness.{apart, coverage, hasOwner, isCovered, linkOk, linkTests, linksTo, needTests, nodeOk, ordered, sameOwner}
+use Rattle.model.specs.Soundness.{coverage, hasOwner, isCovered, linkOk, nodeOk, ordered, sameOwner}
 use Rattle.model.specs.Tables.{Tables, installed, nodeAt, present, serving}
-use Rattle.scans.proofs.Laws.Columns.{row-in, rows-pass}
 use Rattle.scans.proofs.Laws.Flags.{flag-nodes}
-use Rattle.scans.specs.Columns.{declarationsOf, endsBelow, flag, linkAt, linksOf}
+use Rattle.scans.specs.Columns.{declarationsOf, flag}
 
--- rows that are live links, dead ones left out
-module _ (k : Kernel) (le : k .«node_count» ≤ 64) (z : Sized controller (layoutOf k)) where
+module _ (k : Kernel) (z : Sized controller (layoutOf k)) where
   abbrev T : Tables
   T = tablesOf (layoutOf k)
 
-  abbrev live : List Link
-  live = keep (λ l. l .live) (take (k .«link_count») (k .links))
-
   -- flags of the array are flags of the nodes below the count
-  pub flags-are : (f : Node → Bool) → f blankNode ≡ false → all isBlankNode (drop (k .«node_count») (k .nodes)) ≡ true → flag 64 (map f (k .nodes)) ≡ (λ id. f (nodeAt ((tablesOf (layoutOf k)) .nodes) id))
+  pub flags-are : k .«node_count» ≤ 64 → (f : Node → Bool) → f blankNode ≡ false → all isBlankNode (drop (k .«node_count») (k .nodes)) ≡ true → flag 64 (map f (k .nodes)) ≡ (λ id. f (nodeAt ((tablesOf (layoutOf k)) .nodes) id))
   unfolding tablesOf
-  flags-are f dark blank = flag-nodes f dark (k .nodes) (z .nodes) (k .«node_count») le blank
+  flags-are le f dark blank = flag-nodes f dark (k .nodes) (z .nodes) (k .«node_count») le blank
 
-  pub owners-are : (r : Bool) (owner key realm : List ℕ) (provides : List Bool) → take (k .«declaration_count») (declarationsOf 256 owner key realm provides) ≡ take (k .«declaration_count») (k .declarations) → ((x y : List ℕ) (z : List Bool) → r ≡ all (hasOwner (k .«node_count»)) (take (k .«declaration_count») (declarationsOf 256 owner x y z))) → r ≡ all (hasOwner (length ((tablesOf (layoutOf k)) .nodes))) ((tablesOf (layoutOf k)) .declarations)
+  -- ---- the tests, as the scans answer them
+
+  abbrev pub countsPass : Bool
+  countsPass = leb (k .«node_count») 64 && leb (k .«declaration_count») 256 && leb (k .«link_count») 512
+
+  abbrev pub nodesPass : Bool
+  nodesPass = allAt (nodeOk (take (k .«node_count») (k .nodes))) 0 (take (k .«node_count») (k .nodes)) && all isBlankNode (drop (k .«node_count») (k .nodes))
+
+  pub counts-fail : countsPass ≡ false → isSound k ≡ false
+  counts-fail h = unsound-by controller (layoutOf k) _ h (λ q. and-i _ _ (and-i _ _ (q .layout .0) (q .layout .1 .0)) (q .layout .1 .1 .0))
+
+  pub nodes-fail : nodesPass ≡ false → isSound k ≡ false
   unfolding tablesOf
-  owners-are r owner key realm provides e h = rw (length-take-le (k .«node_count») (k .nodes) (omega (arith, z .nodes)), ← e) (h key realm provides)
+  nodes-fail h = unsound-by controller (layoutOf k) _ h (λ q. and-i _ _ (q .safety .1 .1 .0) (q .layout .1 .1 .1 .0))
 
-  pub one-is : (r : Bool) (D : List Declaration) (F : ℕ → Bool) → D ≡ take (k .«declaration_count») (k .declarations) → F ≡ present ((tablesOf (layoutOf k)) .nodes) → r ≡ all (λ d. all (sameOwner F d) D) D → r ≡ all (λ d. all (sameOwner (present ((tablesOf (layoutOf k)) .nodes)) d) ((tablesOf (layoutOf k)) .declarations)) ((tablesOf (layoutOf k)) .declarations)
-  unfolding tablesOf
-  one-is r D F e f h = h ∙ ap (λ (G : ℕ → Bool). all (λ d. all (sameOwner G d) D) D) f ∙ ap (λ (E : List Declaration). all (λ d. all (sameOwner (present (take (k .«node_count») (k .nodes))) d) E) E) e
+  -- columns of what is asked of each node, and of the declarations
+  module _ (cs : countsPass ≡ true) (ns : nodesPass ≡ true) (here inst serv : List Bool) (p : here ≡ map (λ n. n .present) (k .nodes)) (i : inst ≡ map isInstalled (k .nodes)) (s : serv ≡ map isServing (k .nodes)) (D : List Declaration) (de : D ≡ take (k .«declaration_count») (k .declarations)) where
+    two : leb (k .«node_count») 64 && leb (k .«declaration_count») 256 ≡ true
+    two = and-l (leb (k .«node_count») 64 && leb (k .«declaration_count») 256) _ cs
 
-  pub links-are : (r : Bool) (D : List Declaration) (F G : ℕ → Bool) (L : List Link) → D ≡ take (k .«declaration_count») (k .declarations) → F ≡ installed ((tablesOf (layoutOf k)) .nodes) → G ≡ serving ((tablesOf (layoutOf k)) .nodes) → L ≡ keep (λ l. l .live) (take (k .«link_count») (k .links)) → r ≡ all (linkOk F G D) L → r ≡ all (linkOk (installed ((tablesOf (layoutOf k)) .nodes)) (serving ((tablesOf (layoutOf k)) .nodes)) ((tablesOf (layoutOf k)) .declarations)) ((tablesOf (layoutOf k)) .links)
-  unfolding tablesOf linkOk
-  links-are r D F G L e f g l h =
-      let I : ℕ → Bool = installed (take (k .«node_count») (k .nodes)) in
-      let W : ℕ → Bool = serving (take (k .«node_count») (k .nodes)) in
-      let ds : List Declaration = take (k .«declaration_count») (k .declarations) in
-      h
-      ∙ ap (λ (E : List Declaration). all (linkOk F G E) L) e
-      ∙ ap (λ (X : ℕ → Bool). all (linkOk X G ds) L) f
-      ∙ ap (λ (X : ℕ → Bool). all (linkOk I X ds) L) g
-      ∙ ap (λ (X : List Link). all (linkOk I W ds) X) l
-      ∙ all-kept (λ l. l .live) (linkOk I W ds) (λ x d. rw d) (take (k .«link_count») (k .links))
+    one : leb (k .«node_count») 64 ≡ true
+    one = and-l (leb (k .«node_count») 64) _ two
 
-  pub order-is : (r : Bool) (consumer key realm provider : List ℕ) (n : ℕ) → take n (linksOf 512 consumer key realm provider) ≡ keep (λ l. l .live) (take (k .«link_count») (k .links)) → ((x y : List ℕ) → r ≡ ordered (take n (linksOf 512 consumer x y provider))) → r ≡ ordered ((tablesOf (layoutOf k)) .links)
-  unfolding tablesOf apart
-  order-is r consumer key realm provider n l h = h key realm ∙ ap (λ (X : List Link). ordered X) l ∙ onward-kept (λ l. l .live) apart (λ x y d. rw d) (λ x y d. rw (d, and-false (x .live))) (take (k .«link_count») (k .links))
+    le : k .«node_count» ≤ 64
+    le = leb-true _ _ one
 
-  pub cover-is : (r : Bool) (D : List Declaration) (F : ℕ → Bool) (consumer key realm provider : List ℕ) (n : ℕ) → D ≡ take (k .«declaration_count») (k .declarations) → F ≡ installed ((tablesOf (layoutOf k)) .nodes) → take n (linksOf 512 consumer key realm provider) ≡ keep (λ l. l .live) (take (k .«link_count») (k .links)) → ((x : List ℕ) → r ≡ all (isCovered F (take n (linksOf 512 consumer key realm x))) D) → r ≡ coverage (tablesOf (layoutOf k))
-  unfolding tablesOf coverage isCovered linksTo
-  cover-is r D F consumer key realm provider n e f l h =
-      let I : ℕ → Bool = installed (take (k .«node_count») (k .nodes)) in
-      let ls : List Link = take (k .«link_count») (k .links) in
-      let L : List Link = take n (linksOf 512 consumer key realm provider) in
-      h provider
-      ∙ ap (λ (E : List Declaration). all (isCovered F L) E) e
-      ∙ ap (λ (X : ℕ → Bool). all (isCovered X L) (take (k .«declaration_count») (k .declarations))) f
-      ∙ ap (λ (X : List Link). all (isCovered I X) (take (k .«declaration_count») (k .declarations))) l
-      ∙ ap (λ (p : Declaration → Bool). all p (take (k .«declaration_count») (k .declarations))) (λ i d. conj (needTests I d) ⇒ any-kept (λ l. l .live) (linksTo (d .owner) (d .port)) (λ x v. rw v) ls i)
+    blank : all isBlankNode (drop (k .«node_count») (k .nodes)) ≡ true
+    blank = and-r (allAt (nodeOk (take (k .«node_count») (k .nodes))) 0 (take (k .«node_count») (k .nodes))) _ ns
 
--- ends that the link test found are below the size, where it finds none past it; so are those of live links in columns, whatever ports stand beside them
-module _ (F G : ℕ → Bool) (f : (id : ℕ) → F id ≡ true → ltb id 64 ≡ true) (g : (id : ℕ) → G id ≡ true → ltb id 64 ≡ true) (ds : List Declaration) where
-  ends-found : (l : Link) → l .live ≡ true → linkOk F G ds l ≡ true → endsBelow 64 l ≡ true
-  unfolding linkOk
-  ends-found l v h =
-      let e : Each (linkTests F G ds l) = each (linkTests F G ds l) (imp-e (l .live) _ h v) in
-      and-i (ltb (l .consumer) 64) _ (f _ (e .0)) (g _ (e .1 .0))
+    column-is : (f : Node → Bool) (col : List Bool) → f blankNode ≡ false → col ≡ map f (k .nodes) → flag 64 col ≡ (λ id. f (nodeAt ((tablesOf (layoutOf k)) .nodes) id))
+    column-is f col dark e = ap (λ (xs : List Bool). flag 64 xs) e ∙ flags-are le f dark blank
 
-  pub ends-below : (r : Bool) (live : ℕ) (consumer key realm provider : List ℕ) → r ≡ all (linkOk F G ds) (take live (linksOf 512 consumer key realm provider)) → r ≡ true → (k q : List ℕ) → all (endsBelow 64) (take live (linksOf 512 consumer k q provider)) ≡ true
-  unfolding linksOf
-  ends-below r live consumer key realm provider h t k q = rows-pass (endsBelow 64) live 512 (linkAt consumer k q provider) (λ i l m. ends-found (linkAt consumer key realm provider i) refl (row-in (linkOk F G ds) live 512 (linkAt consumer key realm provider) i l m (sym h ∙ t)))
+    owners-are : all (hasOwner (k .«node_count»)) D ≡ all (hasOwner (length ((tablesOf (layoutOf k)) .nodes))) ((tablesOf (layoutOf k)) .declarations)
+    unfolding tablesOf
+    owners-are = rw (length-take-le (k .«node_count») (k .nodes) (omega (arith, le, z .nodes)), de)
 
--- the node test, on the tables
-pub nodes-are : (k : Kernel) → allAt (nodeOk (take (k .«node_count») (k .nodes))) 0 (take (k .«node_count») (k .nodes)) ≡ true → allAt (nodeOk ((tablesOf (layoutOf k)) .nodes)) 0 ((tablesOf (layoutOf k)) .nodes) ≡ true
-unfolding tablesOf
-nodes-are k h = h
+    one-is : all (λ d. all (sameOwner (flag 64 here) d) D) D ≡ all (λ d. all (sameOwner (present ((tablesOf (layoutOf k)) .nodes)) d) ((tablesOf (layoutOf k)) .declarations)) ((tablesOf (layoutOf k)) .declarations)
+    unfolding tablesOf
+    one-is = rw (column-is (λ n. n .present) here refl p, de)
+
+    links-are : all (linkOk (flag 64 inst) (flag 64 serv) D) (take (k .«link_count») (k .links)) ≡ all (linkOk (installed ((tablesOf (layoutOf k)) .nodes)) (serving ((tablesOf (layoutOf k)) .nodes)) ((tablesOf (layoutOf k)) .declarations)) ((tablesOf (layoutOf k)) .links)
+    unfolding tablesOf
+    links-are = rw (column-is isInstalled inst refl i, column-is isServing serv refl s, de)
+
+    cover-is : all (isCovered (flag 64 inst) (take (k .«link_count») (k .links))) D ≡ coverage (tablesOf (layoutOf k))
+    unfolding tablesOf coverage
+    cover-is = rw (column-is isInstalled inst refl i, de)
+
+    -- the declarations: those past the count, the owners, and one owner of a port
+    module _ (b o u : Bool) (be : b ≡ all isBlankDeclaration (drop (k .«declaration_count») (k .declarations))) (oe : o ≡ all (hasOwner (k .«node_count»)) D) (ue : u ≡ all (λ d. all (sameOwner (flag 64 here) d) D) D) where
+      pub declarations-fail : b && o && u ≡ false → isSound k ≡ false
+      declarations-fail h = unsound-by controller (layoutOf k) _ h (λ q. and-i _ _ (and-i _ _ (be ∙ q .layout .1 .1 .1 .1 .0) (oe ∙ owners-are ∙ q .safety .0)) (ue ∙ one-is ∙ q .safety .1 .0))
+
+      -- the links: each by itself, their order, and those past the count
+      module _ (ds : b && o && u ≡ true) (r : Bool) (re : r ≡ (all (linkOk (flag 64 inst) (flag 64 serv) D) (take (k .«link_count») (k .links)) && ordered (take (k .«link_count») (k .links))) && all isBlankLink (drop (k .«link_count») (k .links))) where
+        pub links-fail : r ≡ false → isSound k ≡ false
+        unfolding tablesOf
+        links-fail h = unsound-by controller (layoutOf k) _ h (λ q. re ∙ and-i _ _ (and-i _ _ (links-are ∙ q .safety .1 .1 .1 .0) (q .safety .1 .1 .1 .1 .0)) (q .layout .1 .1 .1 .1 .1 .0))
+
+        -- the dependencies decide
+        pub covers : r ≡ true → isSound k ≡ all (isCovered (flag 64 inst) (take (k .«link_count») (k .links))) D
+        unfolding tablesOf
+        covers t =
+            let ok : Bool = all (linkOk (flag 64 inst) (flag 64 serv) D) (take (k .«link_count») (k .links)) in
+            let or : Bool = ordered (take (k .«link_count») (k .links)) in
+            let past : Bool = all isBlankLink (drop (k .«link_count») (k .links)) in
+            let l : (ok && or) && past ≡ true = sym re ∙ t in
+            let lo : ok && or ≡ true = and-l (ok && or) past l in
+            let bo : b && o ≡ true = and-l (b && o) u ds in
+            sound-rest controller (layoutOf k) (one, (and-r (leb (k .«node_count») 64) _ two, (and-r (leb (k .«node_count») 64 && leb (k .«declaration_count») 256) _ cs, (blank, (sym be ∙ and-l b o bo, (and-r (ok && or) past l, tt)))))) (sym owners-are ∙ sym oe ∙ and-r b o bo) (sym one-is ∙ sym ue ∙ and-r (b && o) u ds) (and-l (allAt (nodeOk (take (k .«node_count») (k .nodes))) 0 (take (k .«node_count») (k .nodes))) _ ns) (sym links-are ∙ and-l ok or lo) (and-r ok or lo)
+            ∙ sym cover-is

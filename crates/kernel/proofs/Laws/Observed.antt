@@ -51,7 +51,7 @@ module _ (k : Kernel) (z : Sized controller (layoutOf k)) (s : Bool) (e : s ≡ 
 
   -- of what a test says of each node
   pub nodes-flagged : (f : Node → Bool) → f blankNode ≡ false → flag 64 (map f (k .nodes)) ≡ (λ id. f (nodeAt ((tablesOf (layoutOf k)) .nodes) id))
-  nodes-flagged f dark = let l : Laid controller (layoutOf k) = laid-of controller (layoutOf k) is-sound in flags-are k (l .nodes) z f dark (l .blank-nodes)
+  nodes-flagged f dark = let l : Laid controller (layoutOf k) = laid-of controller (layoutOf k) is-sound in flags-are k z (l .nodes) f dark (l .blank-nodes)
 
   -- places of a test over the array are those over the nodes below the count
   pub places-are : (f : Node → Bool) → f blankNode ≡ false → places (λ b. b) 0 (map f (k .nodes)) ≡ places f 0 ((tablesOf (layoutOf k)) .nodes)

@@ -75,3 +75,21 @@ of-each (b ∷ bs) h = and-each b bs (h .0) (h .1)
 pub both-or : (a b : Bool) → not a || b ≡ true → a && not b ≡ false
 both-or true b h = rw h
 both-or false b h = refl
+
+-- ---- a test that says what two say
+
+pub record Both (r a b : Bool) : Type 0 where
+  pub says : r ≡ a && b
+
+pub both-not : (a b : Bool) → Both (not (a || b)) (not a) (not b)
+both-not true b = record { says = refl }
+both-not false b = record { says = refl }
+
+and-swap : (a b c d : Bool) → (a && b) && (c && d) ≡ (a && c) && (b && d)
+and-swap true true c d = refl
+and-swap true false true d = refl
+and-swap true false false d = refl
+and-swap false b c d = refl
+
+pub both-and : {r t a b c d : Bool} → Both r a b → Both t c d → Both (r && t) (a && c) (b && d)
+both-and {a} {b} {c} {d} h k = record { says = rw (h .says, k .says) (and-swap a b c d) }

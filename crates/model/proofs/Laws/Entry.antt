@@ -29,7 +29,7 @@ pieces S k h =
 pub unsound-by : (S : Sizes) (k : Layout) (b : Bool) → b ≡ false → (Pieces S k → b ≡ true) → soundKernel S k ≡ false
 unsound-by S k b e f = refuted (soundKernel S k) (λ h. clash {A = ⊥} b (f (pieces S k h)) e)
 
--- all pieces but the last two: what is left is those
-pub sound-rest : (S : Sizes) (k : Layout) → Each (layoutTests S k) → all (hasOwner (length ((tablesOf k) .nodes))) ((tablesOf k) .declarations) ≡ true → all (λ d. all (sameOwner (present ((tablesOf k) .nodes)) d) ((tablesOf k) .declarations)) ((tablesOf k) .declarations) ≡ true → allAt (nodeOk ((tablesOf k) .nodes)) 0 ((tablesOf k) .nodes) ≡ true → all (linkOk (installed ((tablesOf k) .nodes)) (serving ((tablesOf k) .nodes)) ((tablesOf k) .declarations)) ((tablesOf k) .links) ≡ true → soundKernel S k ≡ ordered ((tablesOf k) .links) && coverage (tablesOf k)
+-- all pieces but the last: what is left is that
+pub sound-rest : (S : Sizes) (k : Layout) → Each (layoutTests S k) → all (hasOwner (length ((tablesOf k) .nodes))) ((tablesOf k) .declarations) ≡ true → all (λ d. all (sameOwner (present ((tablesOf k) .nodes)) d) ((tablesOf k) .declarations)) ((tablesOf k) .declarations) ≡ true → allAt (nodeOk ((tablesOf k) .nodes)) 0 ((tablesOf k) .nodes) ≡ true → all (linkOk (installed ((tablesOf k) .nodes)) (serving ((tablesOf k) .nodes)) ((tablesOf k) .declarations)) ((tablesOf k) .links) ≡ true → ordered ((tablesOf k) .links) ≡ true → soundKernel S k ≡ coverage (tablesOf k)
 unfolding soundKernel wf safetyWf
-sound-rest S k l a b c d = rw (of-each (layoutTests S k) l, a, b, c, d)
+sound-rest S k l a b c d e = rw (of-each (layoutTests S k) l, a, b, c, d, e)

@@ -1,23 +1,23 @@
 -- Chains: how a loop makes them, and a walk of one finds what a scan of every entry finds, for a test that only entries of its bucket pass.
 use mathlib.Core.Path.{_∙_, _≡_, ap, refl, sym}
-use mathlib.Core.Bool.{Bool, _&&_, _||_, cond, false, not, true}
+use mathlib.Core.Bool.{Bool, Bool·beq, _&&_, _||_, cond, false, not, true}
 use mathlib.Core.List.{List, [], _++_, _∷_}
 use mathlib.Core.Logic.{_⊎_, inl, inr}
 use Prim.Native.Nat.{_+_, _-_, _<_, _≤_, suc, zero, ℕ}
 use native.Mathlib.Omega.{arith}
+use native.Mathlib.Decide.{decLt}
 use native.Mathlib.Numerals.{add-one}
 use lib.Dec.{eqb}
 use lib.ListN.{getD, getD-replicate, length, length-set, replicate, set, take}
 use lib.Seq.{getD-set-other, getD-set-same, take-suc}
 use borrow.Author.Tests.{eq-eqb, eqb-false, eqb-true, ne-eqb}
 use Rattle.model.specs.declared.Declaration.{Declaration}
-use Rattle.model.specs.declared.Link.{Link}
 use Rattle.model.specs.declared.Port.{Port}
 use Rattle.model.proofs.Laws.Booleans.{Each, and-i, and-l, and-r, cases, clash, each, imp-i, not-f, not-t, or-f-l}
 use Rattle.model.proofs.Laws.Lists.{in-all}
 use Rattle.model.specs.Lists.{all, any, conj}
-use Rattle.model.specs.Records.{portOf, samePort}
-use Rattle.model.specs.Soundness.{isDeclaration, linksTo, rivalTests, sameOwner}
+use Rattle.model.specs.Records.{samePort}
+use Rattle.model.specs.Soundness.{isDeclaration, rivalTests, sameOwner}
 use Rattle.scans.proofs.Laws.Columns.{length-rows, row-at}
 use Rattle.scans.specs.Columns.{rowsFrom}
 use Rattle.scans.specs.Chains.{Chained, bucketOf, latest}
@@ -51,6 +51,17 @@ module _ (bucket : ℕ → ℕ) (b : ℕ) where
       go : (t : Bool) → eqb (bucket n) b ≡ t → cond t (suc n) (latest bucket b n) ≡ suc i → (latest bucket b n ≡ suc i → bucket i ≡ b) → bucket i ≡ b
       go true t h k = let g : n ≡ i = omega arith in rw g at (eqb-true (bucket n) b t)
       go false t h k = k h
+
+  -- no later entry is in the bucket
+  latest-none : (n e : ℕ) → latest bucket b n ≤ e → e < n → bucket e ≡ b → ⊥
+  unfolding latest
+  latest-none zero e l m h = absurd (omega arith)
+  latest-none (suc n) e l m h = go (cases (eqb (bucket n) b)) (decLt e n) (λ k i. latest-none n e k i h)
+    where
+      go : (eqb (bucket n) b ≡ true) ⊎ (eqb (bucket n) b ≡ false) → Dec (e < n) → (latest bucket b n ≤ e → e < n → ⊥) → ⊥
+      go (inl t) d f = let g : suc n ≤ e = rw t at l in absurd (omega arith)
+      go (inr t) (yes k) f = f (rw t at l) k
+      go (inr t) (no k) f = let g : e ≡ n = omega arith in eqb-false (bucket n) b t (rw g at h)
 
 -- ---- a loop that makes the chains
 
@@ -99,10 +110,14 @@ any-snoc p (y ∷ ys) x = rw (any-snoc p ys x) (exchange (p y) (p x) (any p ys))
     exchange false true c = refl
     exchange false false c = refl
 
+-- one more of the first entries
+pub any-more : {A : Type 0} (p : A → Bool) (xs : List A) (k : ℕ) (d : A) → k < length xs → any p (take (suc k) xs) ≡ p (getD xs k d) || any p (take k xs)
+any-more p xs k d l = rw (take-suc xs k d l) (any-snoc p (take k xs) (getD xs k d))
+
 module _ {A : Type 0} (size : ℕ) (f : ℕ → A) (p : A → Bool) where
   -- the last of some rows, then those before it
   rows-last : (k : ℕ) → k < size → any p (take (suc k) (rowsFrom 0 size f)) ≡ p (f k) || any p (take k (rowsFrom 0 size f))
-  rows-last k l = rw (take-suc (rowsFrom 0 size f) k (f 0) (rw (length-rows 0 size f) l), row-at size k f (f 0) l) (any-snoc p (take k (rowsFrom 0 size f)) (f k))
+  rows-last k l = rw (any-more p (rowsFrom 0 size f) k (f 0) (rw (length-rows 0 size f) l), row-at size k f (f 0) l)
 
   -- where only rows of a bucket pass, the rows up to the last one there answer as all do
   latest-any : (bucket : ℕ → ℕ) (b n : ℕ) → ((k : ℕ) → p (f k) ≡ true → bucket k ≡ b) → n ≤ size → any p (take (latest bucket b n) (rowsFrom 0 size f)) ≡ any p (take n (rowsFrom 0 size f))
@@ -138,7 +153,7 @@ module _ {A : Type 0} (bucket : ℕ → ℕ) (size b : ℕ) (next : List ℕ) (f
 
   module _ (w : Bool) (c : ℕ) (at : Walk bucket size b next f p w c) where
     -- an entry leads to the last one before it in the bucket
-    lead : 0 < c → getD next (c - 1) 0 ≡ latest bucket b (c - 1)
+    pub lead : 0 < c → getD next (c - 1) 0 ≡ latest bucket b (c - 1)
     lead l = go (c - 1) (omega arith)
       where
         go : (i : ℕ) → c ≡ suc i → getD next i 0 ≡ latest bucket b i
@@ -150,6 +165,13 @@ module _ {A : Type 0} (bucket : ℕ → ℕ) (size b : ℕ) (next : List ℕ) (f
 
     step : (i : ℕ) → c ≡ suc i → p (f i) || any p (take i (rowsFrom 0 size f)) ≡ w
     step i e = sym (rows-last size f p i (omega (arith, at .below))) ∙ (rw e at rest)
+
+    -- the entry that one leads to, whether that one passed or not
+    pub walk-on : 0 < c → Walk bucket size b next f p (any p (take (c - 1) (rowsFrom 0 size f))) (getD next (c - 1) 0)
+    walk-on l = record { only = at .only; left = c - 1; within = omega (arith, at .below); below = omega (arith, lead l, latest-le bucket b (c - 1), at .below); here = lead l; leads = λ i k. at .leads i (omega (arith, at .here, latest-le bucket b (at .left))); answers = refl }
+
+    pub walk-step : 0 < c → p (f (c - 1)) || any p (take (c - 1) (rowsFrom 0 size f)) ≡ w
+    walk-step l = step (c - 1) (omega arith)
 
     -- an entry that fails, and the one that it leads to
     pub walk-next : 0 < c → p (f (c - 1)) ≡ false → Walk bucket size b next f p w (getD next (c - 1) 0)
@@ -167,6 +189,52 @@ module _ {A : Type 0} (bucket : ℕ → ℕ) (size b : ℕ) (next : List ℕ) (f
     unfolding any
     walk-done l = let e : c ≡ 0 = omega arith in rw e at rest
 
+-- a walk to the end, with f telling whether an entry has passed so far: x is what the entry at hand says, r what those after it
+pub found-here : (f x r w v : Bool) → x || r ≡ w → f || w ≡ v → x ≡ true → true ≡ v
+found-here true x r w v s e t = e
+found-here false x r w v s e t = (rw t at s) ∙ e
+
+pub found-later : (f x r w v : Bool) → x || r ≡ w → f || w ≡ v → x ≡ false → f || r ≡ v
+found-later f x r w v s e t = rw (rw t at s) e
+
+-- ---- marks on the entries of a bucket that pass
+
+-- of the first n entries those from c on are marked where they pass, and the others as they were
+pub record Marks (p : ℕ → Bool) (n c : ℕ) (old new : List Bool) : Type 0 where
+  pub size : length new ≡ length old
+  pub before : (e : ℕ) → e < c → getD new e false ≡ getD old e false
+  pub after : (e : ℕ) → c ≤ e → e < n → getD new e false ≡ p e || getD old e false
+
+module _ (bucket : ℕ → ℕ) (b : ℕ) (p : ℕ → Bool) (only : (k : ℕ) → p k ≡ true → bucket k ≡ b) (n : ℕ) (old : List Bool) where
+  -- an entry after the last one in the bucket does not pass
+  misses : (k e : ℕ) → latest bucket b k ≤ e → e < k → p e ≡ false
+  misses k e l m = go (cases (p e))
+    where
+      go : (p e ≡ true) ⊎ (p e ≡ false) → p e ≡ false
+      go (inl t) = absurd (latest-none bucket b k e l m (only e t))
+      go (inr t) = t
+
+  pub marks-from : (c : ℕ) → c ≡ latest bucket b n → Marks p n c old old
+  marks-from c h = record { size = refl; before = λ e l. refl; after = λ e l m. rw (misses n e (rw (← h) l) m) }
+
+  -- at c, and at the entry d that it leads to
+  module _ (c d : ℕ) (new : List Bool) (z : 0 < c) (l : d ≡ latest bucket b (c - 1)) (at : Marks p n c old new) where
+    pub marks-miss : p (c - 1) ≡ false → Marks p n d old new
+    marks-miss t = record { size = at .size; before = λ e k. at .before e (omega (arith, l, latest-le bucket b (c - 1))); after = λ e k m. go e k m (decLt e (c - 1)) (decLt (c - 1) e) }
+      where
+        go : (e : ℕ) → d ≤ e → e < n → Dec (e < c - 1) → Dec (c - 1 < e) → getD new e false ≡ p e || getD old e false
+        go e k m (yes x) y = rw (misses (c - 1) e (rw (← l) k) x) (at .before e (omega arith))
+        go e k m (no x) (yes y) = at .after e (omega arith) m
+        go e k m (no x) (no y) = let g : e ≡ c - 1 = omega arith in rw (g, t) (at .before (c - 1) (omega arith))
+
+    pub marks-hit : c ≤ length new → p (c - 1) ≡ true → Marks p n d old (set new (c - 1) true)
+    marks-hit fit t = record { size = length-set new (c - 1) true ∙ at .size; before = λ e k. getD-set-other new (c - 1) e true false (omega (arith, l, latest-le bucket b (c - 1))) ∙ at .before e (omega (arith, l, latest-le bucket b (c - 1))); after = λ e k m. go e k m (decLt e (c - 1)) (decLt (c - 1) e) }
+      where
+        go : (e : ℕ) → d ≤ e → e < n → Dec (e < c - 1) → Dec (c - 1 < e) → getD (set new (c - 1) true) e false ≡ p e || getD old e false
+        go e k m (yes x) y = rw (misses (c - 1) e (rw (← l) k) x) (getD-set-other new (c - 1) e true false (omega arith) ∙ at .before e (omega arith))
+        go e k m (no x) (yes y) = getD-set-other new (c - 1) e true false (omega arith) ∙ at .after e (omega arith) m
+        go e k m (no x) (no y) = let g : e ≡ c - 1 = omega arith in rw (g, t) (getD-set-same new (c - 1) true false (omega (arith, fit)))
+
 -- ---- a test of an owner and a port is passed in their bucket alone
 
 same-bucket : (a o : ℕ) (p q : Port) → eqb a o ≡ true → samePort p q ≡ true → bucketOf a (p .key) (p .realm) ≡ bucketOf o (q .key) (q .realm)
@@ -178,11 +246,14 @@ only-declaration o p b d t =
     let e = and-l (eqb (d .owner) o && samePort (d .port) p) _ t in
     same-bucket (d .owner) o (d .port) p (and-l (eqb (d .owner) o) _ e) (and-r (eqb (d .owner) o) _ e)
 
-pub only-link : (o : ℕ) (p : Port) (l : Link) → linksTo o p l ≡ true → bucketOf (l .consumer) (l .binding .key) (l .binding .realm) ≡ bucketOf o (p .key) (p .realm)
-unfolding linksTo
-only-link o p l t =
-    let e = and-l (l .live && eqb (l .consumer) o) _ t in
-    same-bucket (l .consumer) o (portOf (l .binding)) p (and-r (l .live) _ e) (and-r (l .live && eqb (l .consumer) o) _ t)
+-- a declaration that is no provision
+pub is-dependency : (o : ℕ) (p : Port) (d : Declaration) → isDeclaration o p false d ≡ eqb (d .owner) o && samePort (d .port) p && not (d .provides)
+unfolding isDeclaration
+is-dependency o p d = ap (λ (x : Bool). eqb (d .owner) o && samePort (d .port) p && x) (go (d .provides))
+  where
+    go : (b : Bool) → Bool·beq b false ≡ not b
+    go true = refl
+    go false = refl
 
 -- a declaration with which another clashes: the same port provided, and another owner
 abbrev pub isRival : (ℕ → Bool) → Declaration → Declaration → Bool

@@ -1,6 +1,6 @@
--- A loop that leaves early: what is left to scan answers as the whole does. A step on, a hit and the end, for each kind of scan.
+-- A loop that leaves early: what is left to scan answers as the whole does. A step on, a hit and the end, for each kind of scan; and a scan that joins what it meets, tested at the end.
 use mathlib.Core.Path.{_∙_, _≡_, sym}
-use mathlib.Core.Bool.{Bool, false, true}
+use mathlib.Core.Bool.{Bool, _&&_, and-assoc, and-true, false, true}
 use mathlib.Core.List.{List, [], _++_, _∷_, append-nil}
 use Prim.Native.Nat.{_+_, _<_, _≤_, suc, ℕ}
 use native.Mathlib.Omega.{arith}
@@ -45,6 +45,14 @@ module _ {A : Type 0} where
       go (yes l) = drop-of-length-le xs {i = end} (omega (arith, m .whole l)) ∙ sym (drop-of-length-le xs {i = count} (omega (arith, m .whole l)))
       go (no l) = let f : end ≡ count = omega (arith, m .below) in rw f
 
+-- what is below the count and the size is below the count that stops there
+pub below-most : (count n end k : ℕ) → AtMost count n end → k < count → k < n → k < end
+below-most count n end k m a b = go (decLt end count)
+  where
+    go : Dec (end < count) → k < end
+    go (yes l) = omega (arith, m .whole l)
+    go (no l) = omega arith
+
 -- ---- all, any, allAt, keep, places, with w the answer on the whole
 
 module _ {A : Type 0} (p : A → Bool) (x : A) (rest rest′ : List A) where
@@ -55,6 +63,11 @@ module _ {A : Type 0} (p : A → Bool) (x : A) (rest rest′ : List A) where
   pub all-hit : (w : Bool) → rest ≡ x ∷ rest′ → all p rest ≡ w → p x ≡ false → false ≡ w
   unfolding all
   all-hit w e h t = rw (e, all, t) at h
+
+  -- the entries so far joined into one, which passes where they all do
+  pub all-join : (a r : A) (w : Bool) → rest ≡ x ∷ rest′ → p a && all p rest ≡ w → p r ≡ p a && p x → p r && all p rest′ ≡ w
+  unfolding all
+  all-join a r w e h t = rw t (and-assoc (p a) (p x) (all p rest′) ∙ (rw (e, all) at h))
 
   pub any-next : (w : Bool) → rest ≡ x ∷ rest′ → any p rest ≡ w → p x ≡ false → any p rest′ ≡ w
   unfolding any
@@ -84,6 +97,10 @@ module _ {A : Type 0} (p : A → Bool) (rest : List A) where
   pub all-done : (w : Bool) → rest ≡ [] → all p rest ≡ w → true ≡ w
   unfolding all
   all-done w e h = rw (e, all) at h
+
+  pub join-done : (a : A) (w : Bool) → rest ≡ [] → p a && all p rest ≡ w → p a ≡ w
+  unfolding all
+  join-done a w e h = sym (and-true (p a)) ∙ (rw (e, all) at h)
 
   pub any-done : (w : Bool) → rest ≡ [] → any p rest ≡ w → false ≡ w
   unfolding any

@@ -25,12 +25,12 @@ sound-requires c κs = search needs
 returns : tie.Need-returns
 returns c =
     let a = c .before .before .args in
-    sym (ap outcome (damaged (a .t1) (Command.beginCleanup (a .id)) (c .before .sound .result) (c .before .sound .ensures) (c .if1 .taken)))
+    sym (ap outcome (damaged (a .self) (Command.beginCleanup (a .id)) (c .before .sound .result) (c .before .sound .ensures) (c .if1 .taken)))
 
 returns-2 : tie.Need-returns-2
 returns-2 c =
     let s = c .before .before .before in
-    let k = s .args .t1 in
+    let k = s .args .self in
     let z = sized k (s .good .0, tt) in
     let v = c .before .before .sound in
     let t = c .before .if1 .left in
@@ -39,8 +39,8 @@ returns-2 c =
 mul-node : tie.Need-mul-node
 mul-node c = search needs
 
-element-copy-out-node : tie.Need-element-copy-out-node
-element-copy-out-node c = search needs
+array-copy-out-node : tie.Need-array-copy-out-node
+array-copy-out-node c = search needs
 
 check-unloading-requires : tie.Need-check-unloading-requires
 check-unloading-requires c κs = search needs
@@ -50,11 +50,11 @@ enum-known-checked c = search needs
 
 returns-3 : tie.Need-returns-3
 returns-3 c =
-    let s = c .before .before .before .before .before .before .before .before in
-    let k = s .args .t1 in
+    let s = c .before .before .before .before .before .before .before .before .before in
+    let k = s .args .self in
     let z = sized k (s .good .0, tt) in
-    let v = c .before .before .before .before .before .before .before .sound in
-    let t = c .before .before .before .before .before .before .if1 .left in
+    let v = c .before .before .before .before .before .before .before .before .sound in
+    let t = c .before .before .before .before .before .before .before .if1 .left in
     sym (ap outcome (refused-by k z (v .result) (v .ensures) t (Command.beginCleanup (s .args .id)) _ (node-refused k z (v .result) (v .ensures) t (s .args .id) unloadingTests _ _ _ (c .before .before .before .check-unloading .ensures) (c .before .checked .given .1))))
 
 enum-told : tie.Need-enum-told
@@ -72,33 +72,33 @@ enum-known-updated c = search needs
 returns-4 : tie.Need-returns-4
 returns-4 c =
     let s = c .before .before .before .before .before .before .before .before .before .before .before .before .before .before in
-    let k = s .args .t1 in
+    let k = s .args .self in
     let z = sized k (s .good .0, tt) in
     let v = c .before .before .before .before .before .before .before .before .before .before .before .before .before .sound in
     let t = c .before .before .before .before .before .before .before .before .before .before .before .before .if1 .left in
-    let p = node-passed k z (v .result) (v .ensures) t (s .args .id) unloadingTests _ (c .before .before .before .before .before .before .before .before .before .check-unloading .ensures) (c .before .before .before .before .before .before .before .enum-told .given .1) in
-    sym (ap outcome (refused-by k z (v .result) (v .ensures) t (Command.beginCleanup (s .args .id)) _ (node-past k z (v .result) (v .ensures) t (s .args .id) unloadingTests _ _ (c .before .before .before .before .before .before .before .before .before .check-unloading .ensures) (c .before .before .before .before .before .before .before .enum-told .given .1) ∙ cleanup-refused k z (v .result) (v .ensures) t (s .args .id) p (c .before .before .before .before .before .before .restoring-node .result) (c .before .before .before .before .before .before .restoring-node .ensures) (c .before .before .before .update-node .result) (c .before .before .before .update-node .ensures) _ (c .before .updated .given .1))))
+    let p = node-passed k z (v .result) (v .ensures) t (s .args .id) unloadingTests _ (c .before .before .before .before .before .before .before .before .check-unloading .ensures) (c .before .before .before .before .before .before .enum-told .given .1) in
+    sym (ap outcome (refused-by k z (v .result) (v .ensures) t (Command.beginCleanup (s .args .id)) _ (node-past k z (v .result) (v .ensures) t (s .args .id) unloadingTests _ _ (c .before .before .before .before .before .before .before .before .check-unloading .ensures) (c .before .before .before .before .before .before .enum-told .given .1) ∙ cleanup-refused k z (v .result) (v .ensures) t (s .args .id) p (c .before .before .before .before .before .restoring-node .result) (c .before .before .before .before .before .restoring-node .ensures) (c .before .before .before .update-node .result) (c .before .before .before .update-node .ensures) _ (c .before .updated .given .1))))
 
 enum-told-2 : tie.Need-enum-told-2
 enum-told-2 c = search needs
 
-mul-new : tie.Need-mul-new
-mul-new c = search needs
+mul-nodes : tie.Need-mul-nodes
+mul-nodes c = search needs
 
-element-set-from-new : tie.Need-element-set-from-new
-element-set-from-new c = search needs
+array-set-from-nodes : tie.Need-array-set-from-nodes
+array-set-from-nodes c = search needs
 
 returns-5 : tie.Need-returns-5
 returns-5 c =
     let s = c .before .before .before .before .before .before .before .before .before .before .before .before .before in
-    let k = s .args .t1 in
+    let k = s .args .self in
     let z = sized k (s .good .0, tt) in
     let v = c .before .before .before .before .before .before .before .before .before .before .before .before .sound in
     let t = c .before .before .before .before .before .before .before .before .before .before .before .if1 .left in
-    let p = node-passed k z (v .result) (v .ensures) t (s .args .id) unloadingTests _ (c .before .before .before .before .before .before .before .before .check-unloading .ensures) (c .before .before .before .before .before .before .enum-told .given .1) in
+    let p = node-passed k z (v .result) (v .ensures) t (s .args .id) unloadingTests _ (c .before .before .before .before .before .before .before .check-unloading .ensures) (c .before .before .before .before .before .enum-told .given .1) in
     let h : present ((tablesOf (layoutOf k)) .nodes) (s .args .id) ≡ true = not-f _ (p .0) in
-    let r : c .before .before .before .before .before .restoring-node .result ≡ restoringNode (nodeAt ((tablesOf (layoutOf k)) .nodes) (s .args .id)) = c .before .before .before .before .before .restoring-node .ensures ∙ ap (restoringNode) (sym (node-is k z (v .result) (v .ensures) t (s .args .id))) in
-    sym (ap outcome (accepted-by k z (v .result) (v .ensures) t (Command.beginCleanup (s .args .id)) (p .0, (p .1 .0, cleanup-passed k z (v .result) (v .ensures) t (s .args .id) p (c .before .before .before .before .before .restoring-node .result) (c .before .before .before .before .before .restoring-node .ensures) (c .before .before .update-node .result) (c .before .before .update-node .ensures) (c .enum-told2 .given .1)))) ∙ ap (λ (x : Kernel). record { kernel = x; answer = Answer.Done }) (node-stored k z (v .result) (v .ensures) t (s .args .id) _ h ∙ rw (← r)))
+    let r : c .before .before .before .before .restoring-node .result ≡ restoringNode (nodeAt ((tablesOf (layoutOf k)) .nodes) (s .args .id)) = c .before .before .before .before .restoring-node .ensures ∙ ap (restoringNode) (sym (node-is k z (v .result) (v .ensures) t (s .args .id))) in
+    sym (ap outcome (accepted-by k z (v .result) (v .ensures) t (Command.beginCleanup (s .args .id)) (p .0, (p .1 .0, cleanup-passed k z (v .result) (v .ensures) t (s .args .id) p (c .before .before .before .before .restoring-node .result) (c .before .before .before .before .restoring-node .ensures) (c .before .before .update-node .result) (c .before .before .update-node .ensures) (c .enum-told2 .given .1)))) ∙ ap (λ (x : Kernel). record { kernel = x; answer = Answer.Done }) (node-stored k z (v .result) (v .ensures) t (s .args .id) _ h ∙ rw (← r)))
 
 pub begin-cleanup-spec : {M : Type 1} → statement M
 begin-cleanup-spec =
@@ -108,7 +108,7 @@ begin-cleanup-spec =
     returns
     returns-2
     mul-node
-    element-copy-out-node
+    array-copy-out-node
     check-unloading-requires
     enum-known-checked
     returns-3
@@ -118,6 +118,6 @@ begin-cleanup-spec =
     enum-known-updated
     returns-4
     enum-told-2
-    mul-new
-    element-set-from-new
+    mul-nodes
+    array-set-from-nodes
     returns-5)

@@ -23,19 +23,19 @@ use Rattle.model.specs.Sizes.{controller}
 use Rattle.kernel.proofs.Kernel.check_insert.Statement.{statement}
 use Rattle.kernel.proofs.Kernel.check_insert.Tie as tie
 
-sound-requires : tie.Need-sound-requires
-sound-requires c κs = search needs
+tables-sound-requires : tie.Need-tables-sound-requires
+tables-sound-requires c κs = search needs
 
 returns : tie.Need-returns
 returns c =
-    let s = c .before .before in
-    let so = c .before .sound in
+    let s = c .before .before .before .before .before in
+    let so = c .before .tables-sound in
     sym (ap answer (ask-unsound (s .args .self) (so .result) (Reply.refused Error.Damaged) (λ T. checkInsert controller T (s .args .parent) (s .args .dependencies) (s .args .provisions)) (so .ensures) (c .if1 .taken)))
 
 returns-2 : tie.Need-returns-2
 returns-2 c =
-    let s = c .before .before .before in
-    let so = c .before .before .sound in
+    let s = c .before .before .before .before .before .before in
+    let so = c .before .before .tables-sound in
     let k = s .args .self in
     let ds = s .args .dependencies in
     let ps = s .args .provisions in
@@ -45,8 +45,8 @@ returns-2 c =
 
 returns-3 : tie.Need-returns-3
 returns-3 c =
-    let s = c .before .before .before .before in
-    let so = c .before .before .before .sound in
+    let s = c .before .before .before .before .before .before .before in
+    let so = c .before .before .before .tables-sound in
     let k = s .args .self in
     let ds = s .args .dependencies in
     let ps = s .args .provisions in
@@ -66,15 +66,15 @@ flag-at-requires c κs = search needs
 
 returns-4 : tie.Need-returns-4
 returns-4 c =
-    let s = c .before .before .before .before .before .before .before .before .before .before .before .before .before in
-    let so = c .before .before .before .before .before .before .before .before .before .before .before .before .sound in
+    let s = c .before .before .before .before .before .before .before .before .before .before .before .before .before .before .before in
+    let so = c .before .before .before .before .before .before .before .before .before .before .before .tables-sound in
     let k = s .args .self in
     let ds = s .args .dependencies in
     let ps = s .args .provisions in
     let z = sized k (s .good .0, tt) in
-    let t = c .before .before .before .before .before .before .before .before .before .before .before .if1 .left in
-    let short : tooLong ds || tooLong ps ≡ false = c .before .before .before .before .before .before .before .before .before .before .if2 .left in
-    let free = nodes-free k z (so .result) (so .ensures) t (c .before .before .before .before .before .before .before .before .before .if3 .left) in
+    let t = c .before .before .before .before .before .before .before .before .before .before .if1 .left in
+    let short : tooLong ds || tooLong ps ≡ false = c .before .before .before .before .before .before .before .before .before .if2 .left in
+    let free = nodes-free k z (so .result) (so .ensures) t (c .before .before .before .before .before .before .before .before .if3 .left) in
     let flagged = ap (λ (x : NodeFlags). x .present) (c .before .before .before .before .before .before .before .node-flags .ensures) in
     let absent : parentPresent (tablesOf (layoutOf k)) (s .args .parent) ≡ false = parent-flagged k z (so .result) (so .ensures) t (s .args .parent) _ _ false (c .before .before .before .before .parent .given .1) flagged (sym (not-true _ (c .if4 .taken)) ∙ c .before .flag-at .ensures) in
     sym (check-refused k z (so .result) (so .ensures) t (s .args .parent) ds ps Error.Unknown (skip _ _ _ short ∙ skip _ _ _ free ∙ stop _ _ _ (ap not absent)))
@@ -90,30 +90,30 @@ distinct-ports-requires c κs = search needs
 
 returns-5 : tie.Need-returns-5
 returns-5 c =
-    let s = c .before .before .before .before .before .before .before .before .before .before .before .before in
-    let so = c .before .before .before .before .before .before .before .before .before .before .before .sound in
+    let s = c .before .before .before .before .before .before .before .before .before .before .before .before .before in
+    let so = c .before .before .before .before .before .before .before .before .before .tables-sound in
     let k = s .args .self in
     let ds = s .args .dependencies in
     let ps = s .args .provisions in
     let z = sized k (s .good .0, tt) in
-    let t = c .before .before .before .before .before .before .before .before .before .before .if1 .left in
-    let short : tooLong ds || tooLong ps ≡ false = c .before .before .before .before .before .before .before .before .before .if2 .left in
-    let free = nodes-free k z (so .result) (so .ensures) t (c .before .before .before .before .before .before .before .before .if3 .left) in
-    let flagged = ap (λ (x : NodeFlags). x .present) (c .before .before .before .before .before .before .node-flags .ensures) in
-    let parent : parentPresent (tablesOf (layoutOf k)) (s .args .parent) ≡ true = ⊎-elim (λ w. parent-flagged k z (so .result) (so .ensures) t (s .args .parent) _ _ true (w .1 .given .1) flagged (sym (not-false _ (w .5 .left)) ∙ w .4 .ensures)) (λ w. no-parent (tablesOf (layoutOf k)) (s .args .parent) (w .1 .given .1)) (c .before .before .before .before .match .came) in
+    let t = c .before .before .before .before .before .before .before .before .if1 .left in
+    let short : tooLong ds || tooLong ps ≡ false = c .before .before .before .before .before .before .before .if2 .left in
+    let free = nodes-free k z (so .result) (so .ensures) t (c .before .before .before .before .before .before .if3 .left) in
+    let flagged = ap (λ (x : NodeFlags). x .present) (c .before .before .before .before .before .node-flags .ensures) in
+    let parent : parentPresent (tablesOf (layoutOf k)) (s .args .parent) ≡ true = ⊎-elim (λ w. parent-flagged k z (so .result) (so .ensures) t (s .args .parent) _ _ true (w .1 .given .1) flagged (sym (not-false _ (w .5 .left)) ∙ w .4 .ensures)) (λ w. no-parent (tablesOf (layoutOf k)) (s .args .parent) (w .1 .given .1)) (c .before .before .before .match .came) in
     let conflict = clashes-are k z (so .result) (so .ensures) t ds ps _ _ _ flagged (c .before .before .check-provisions .ensures) (c .before .distinct-ports .ensures) in
     sym (check-refused k z (so .result) (so .ensures) t (s .args .parent) ds ps Error.Conflict (skip _ _ _ short ∙ skip _ _ _ free ∙ skip _ _ _ (ap not parent) ∙ stop _ _ _ (conflict ∙ c .if5 .taken)))
 
 add-if6 : tie.Need-add-if6
 add-if6 c =
-    let s = c .before .before .before .before .before .before .before .before .before .before .before .before in
-    let so = c .before .before .before .before .before .before .before .before .before .before .before .sound in
+    let s = c .before .before .before .before .before .before .before .before .before .before .before .before .before in
+    let so = c .before .before .before .before .before .before .before .before .before .tables-sound in
     let k = s .args .self in
     let ds = s .args .dependencies in
     let ps = s .args .provisions in
     let z = sized k (s .good .0, tt) in
-    let t = c .before .before .before .before .before .before .before .before .before .before .if1 .left in
-    let short : tooLong ds || tooLong ps ≡ false = c .before .before .before .before .before .before .before .before .before .if2 .left in
+    let t = c .before .before .before .before .before .before .before .before .if1 .left in
+    let short : tooLong ds || tooLong ps ≡ false = c .before .before .before .before .before .before .before .if2 .left in
     let few-d = short-dependencies ds ps short in
     let few-p = short-provisions ds ps short in
     let l = laid-of controller (layoutOf k) (is-sound k z (so .result) (so .ensures) t) in
@@ -121,14 +121,14 @@ add-if6 c =
 
 add-if6-2 : tie.Need-add-if6-2
 add-if6-2 c =
-    let s = c .before .before .before .before .before .before .before .before .before .before .before .before in
-    let so = c .before .before .before .before .before .before .before .before .before .before .before .sound in
+    let s = c .before .before .before .before .before .before .before .before .before .before .before .before .before in
+    let so = c .before .before .before .before .before .before .before .before .before .tables-sound in
     let k = s .args .self in
     let ds = s .args .dependencies in
     let ps = s .args .provisions in
     let z = sized k (s .good .0, tt) in
-    let t = c .before .before .before .before .before .before .before .before .before .before .if1 .left in
-    let short : tooLong ds || tooLong ps ≡ false = c .before .before .before .before .before .before .before .before .before .if2 .left in
+    let t = c .before .before .before .before .before .before .before .before .if1 .left in
+    let short : tooLong ds || tooLong ps ≡ false = c .before .before .before .before .before .before .before .if2 .left in
     let few-d = short-dependencies ds ps short in
     let few-p = short-provisions ds ps short in
     let l = laid-of controller (layoutOf k) (is-sound k z (so .result) (so .ensures) t) in
@@ -136,34 +136,34 @@ add-if6-2 c =
 
 returns-6 : tie.Need-returns-6
 returns-6 c =
-    let s = c .before .before .before .before .before .before .before .before .before .before .before .before .before in
-    let so = c .before .before .before .before .before .before .before .before .before .before .before .before .sound in
+    let s = c .before .before .before .before .before .before .before .before .before .before .before .before .before .before in
+    let so = c .before .before .before .before .before .before .before .before .before .before .tables-sound in
     let k = s .args .self in
     let ds = s .args .dependencies in
     let ps = s .args .provisions in
     let z = sized k (s .good .0, tt) in
-    let t = c .before .before .before .before .before .before .before .before .before .before .before .if1 .left in
-    let short : tooLong ds || tooLong ps ≡ false = c .before .before .before .before .before .before .before .before .before .before .if2 .left in
-    let free = nodes-free k z (so .result) (so .ensures) t (c .before .before .before .before .before .before .before .before .before .if3 .left) in
-    let flagged = ap (λ (x : NodeFlags). x .present) (c .before .before .before .before .before .before .before .node-flags .ensures) in
-    let parent : parentPresent (tablesOf (layoutOf k)) (s .args .parent) ≡ true = ⊎-elim (λ w. parent-flagged k z (so .result) (so .ensures) t (s .args .parent) _ _ true (w .1 .given .1) flagged (sym (not-false _ (w .5 .left)) ∙ w .4 .ensures)) (λ w. no-parent (tablesOf (layoutOf k)) (s .args .parent) (w .1 .given .1)) (c .before .before .before .before .before .match .came) in
+    let t = c .before .before .before .before .before .before .before .before .before .if1 .left in
+    let short : tooLong ds || tooLong ps ≡ false = c .before .before .before .before .before .before .before .before .if2 .left in
+    let free = nodes-free k z (so .result) (so .ensures) t (c .before .before .before .before .before .before .before .if3 .left) in
+    let flagged = ap (λ (x : NodeFlags). x .present) (c .before .before .before .before .before .before .node-flags .ensures) in
+    let parent : parentPresent (tablesOf (layoutOf k)) (s .args .parent) ≡ true = ⊎-elim (λ w. parent-flagged k z (so .result) (so .ensures) t (s .args .parent) _ _ true (w .1 .given .1) flagged (sym (not-false _ (w .5 .left)) ∙ w .4 .ensures)) (λ w. no-parent (tablesOf (layoutOf k)) (s .args .parent) (w .1 .given .1)) (c .before .before .before .before .match .came) in
     let conflict = clashes-are k z (so .result) (so .ensures) t ds ps _ _ _ flagged (c .before .before .before .check-provisions .ensures) (c .before .before .distinct-ports .ensures) in
     let sum = declared-count k z (so .result) (so .ensures) t ds ps (dependencies-sized k (s .args .parent) ds ps (s .good)) (provisions-sized k (s .args .parent) ds ps (s .good)) (short-dependencies ds ps short) (short-provisions ds ps short) in
     sym (check-refused k z (so .result) (so .ensures) t (s .args .parent) ds ps Error.Capacity (skip _ _ _ short ∙ skip _ _ _ free ∙ skip _ _ _ (ap not parent) ∙ skip _ _ _ (conflict ∙ c .before .if5 .left) ∙ stop _ _ _ (ap (ltb 256) sum ∙ lt-ltb 256 _ (c .if6 .taken))))
 
 returns-7 : tie.Need-returns-7
 returns-7 c =
-    let s = c .before .before .before .before .before .before .before .before .before .before .before .before .before in
-    let so = c .before .before .before .before .before .before .before .before .before .before .before .before .sound in
+    let s = c .before .before .before .before .before .before .before .before .before .before .before .before .before .before in
+    let so = c .before .before .before .before .before .before .before .before .before .before .tables-sound in
     let k = s .args .self in
     let ds = s .args .dependencies in
     let ps = s .args .provisions in
     let z = sized k (s .good .0, tt) in
-    let t = c .before .before .before .before .before .before .before .before .before .before .before .if1 .left in
-    let short : tooLong ds || tooLong ps ≡ false = c .before .before .before .before .before .before .before .before .before .before .if2 .left in
-    let free = nodes-free k z (so .result) (so .ensures) t (c .before .before .before .before .before .before .before .before .before .if3 .left) in
-    let flagged = ap (λ (x : NodeFlags). x .present) (c .before .before .before .before .before .before .before .node-flags .ensures) in
-    let parent : parentPresent (tablesOf (layoutOf k)) (s .args .parent) ≡ true = ⊎-elim (λ w. parent-flagged k z (so .result) (so .ensures) t (s .args .parent) _ _ true (w .1 .given .1) flagged (sym (not-false _ (w .5 .left)) ∙ w .4 .ensures)) (λ w. no-parent (tablesOf (layoutOf k)) (s .args .parent) (w .1 .given .1)) (c .before .before .before .before .before .match .came) in
+    let t = c .before .before .before .before .before .before .before .before .before .if1 .left in
+    let short : tooLong ds || tooLong ps ≡ false = c .before .before .before .before .before .before .before .before .if2 .left in
+    let free = nodes-free k z (so .result) (so .ensures) t (c .before .before .before .before .before .before .before .if3 .left) in
+    let flagged = ap (λ (x : NodeFlags). x .present) (c .before .before .before .before .before .before .node-flags .ensures) in
+    let parent : parentPresent (tablesOf (layoutOf k)) (s .args .parent) ≡ true = ⊎-elim (λ w. parent-flagged k z (so .result) (so .ensures) t (s .args .parent) _ _ true (w .1 .given .1) flagged (sym (not-false _ (w .5 .left)) ∙ w .4 .ensures)) (λ w. no-parent (tablesOf (layoutOf k)) (s .args .parent) (w .1 .given .1)) (c .before .before .before .before .match .came) in
     let conflict = clashes-are k z (so .result) (so .ensures) t ds ps _ _ _ flagged (c .before .before .before .check-provisions .ensures) (c .before .before .distinct-ports .ensures) in
     let sum = declared-count k z (so .result) (so .ensures) t ds ps (dependencies-sized k (s .args .parent) ds ps (s .good)) (provisions-sized k (s .args .parent) ds ps (s .good)) (short-dependencies ds ps short) (short-provisions ds ps short) in
     sym (check-done k z (so .result) (so .ensures) t (s .args .parent) ds ps (short, (free, (ap not parent, (conflict ∙ c .before .if5 .left, (ap (ltb 256) sum ∙ le-ltb 256 _ (c .if6 .left), tt))))))
@@ -172,7 +172,7 @@ pub check-insert-spec : {M : Type 1} → statement M
 check-insert-spec =
     tie.close
     (tie.spec
-    sound-requires
+    tables-sound-requires
     returns
     returns-2
     returns-3

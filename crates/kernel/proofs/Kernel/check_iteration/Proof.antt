@@ -22,12 +22,12 @@ sound-requires c κs = search needs
 returns : tie.Need-returns
 returns c =
     let a = c .before .before .args in
-    sym (ap answer (ask-unsound (a .t1) (c .before .sound .result) (Reply.refused Error.Damaged) (λ T. checkIteration T (a .id)) (c .before .sound .ensures) (c .if1 .taken)))
+    sym (ap answer (ask-unsound (a .self) (c .before .sound .result) (Reply.refused Error.Damaged) (λ T. checkIteration T (a .id)) (c .before .sound .ensures) (c .if1 .taken)))
 
 returns-2 : tie.Need-returns-2
 returns-2 c =
     let s = c .before .before .before in
-    let k = s .args .t1 in
+    let k = s .args .self in
     let z = sized k (s .good .0, tt) in
     let v = c .before .before .sound in
     let t = c .before .if1 .left in
@@ -36,8 +36,8 @@ returns-2 c =
 mul-node : tie.Need-mul-node
 mul-node c = search needs
 
-element-copy-out-node : tie.Need-element-copy-out-node
-element-copy-out-node c = search needs
+array-copy-out-node : tie.Need-array-copy-out-node
+array-copy-out-node c = search needs
 
 check-loading-requires : tie.Need-check-loading-requires
 check-loading-requires c κs = search needs
@@ -47,11 +47,11 @@ enum-known-checked c = search needs
 
 returns-3 : tie.Need-returns-3
 returns-3 c =
-    let s = c .before .before .before .before .before .before .before .before in
-    let k = s .args .t1 in
+    let s = c .before .before .before .before .before .before .before .before .before in
+    let k = s .args .self in
     let z = sized k (s .good .0, tt) in
-    let v = c .before .before .before .before .before .before .before .sound in
-    let t = c .before .before .before .before .before .before .if1 .left in
+    let v = c .before .before .before .before .before .before .before .before .sound in
+    let t = c .before .before .before .before .before .before .before .if1 .left in
     sym (ap answer (check-refused k z (v .result) (v .ensures) t (s .args .id) _ (node-refused k z (v .result) (v .ensures) t (s .args .id) loadingTests _ _ _ (c .before .before .before .check-loading .ensures) (c .before .checked .given .1))))
 
 enum-told : tie.Need-enum-told
@@ -63,22 +63,22 @@ target-table-requires c κs = search needs
 returns-4 : tie.Need-returns-4
 returns-4 c =
     let s = c .before .before .before .before .before .before .before .before .before .before .before .before .before in
-    let k = s .args .t1 in
+    let k = s .args .self in
     let z = sized k (s .good .0, tt) in
     let v = c .before .before .before .before .before .before .before .before .before .before .before .before .sound in
     let t = c .before .before .before .before .before .before .before .before .before .before .before .if1 .left in
-    let q = done-passed (loadingTests (getD (k .nodes) (s .args .id) blankNode)) _ (c .before .before .before .before .before .before .before .before .check-loading .ensures) (c .before .before .before .before .before .before .enum-told .given .1) in
-    sym (ap answer (check-refused k z (v .result) (v .ensures) t (s .args .id) Error.Changed (node-past k z (v .result) (v .ensures) t (s .args .id) loadingTests _ _ (c .before .before .before .before .before .before .before .before .check-loading .ensures) (c .before .before .before .before .before .before .enum-told .given .1) ∙ stop _ _ _ (target-gone k z (v .result) (v .ensures) t (s .args .id) (c .before .before .before .target-table .result) (c .before .before .before .target-table .ensures) (q .0) ∙ c .if3 .taken))))
+    let q = done-passed (loadingTests (getD (k .nodes) (s .args .id) blankNode)) _ (c .before .before .before .before .before .before .before .check-loading .ensures) (c .before .before .before .before .before .enum-told .given .1) in
+    sym (ap answer (check-refused k z (v .result) (v .ensures) t (s .args .id) Error.Changed (node-past k z (v .result) (v .ensures) t (s .args .id) loadingTests _ _ (c .before .before .before .before .before .before .before .check-loading .ensures) (c .before .before .before .before .before .enum-told .given .1) ∙ stop _ _ _ (target-gone k z (v .result) (v .ensures) t (s .args .id) (c .before .before .before .target-table .result) (c .before .before .before .target-table .ensures) (q .0) ∙ c .if3 .taken))))
 
 returns-5 : tie.Need-returns-5
 returns-5 c =
     let s = c .before .before .before .before .before .before .before .before .before .before .before .before .before in
-    let k = s .args .t1 in
+    let k = s .args .self in
     let z = sized k (s .good .0, tt) in
     let v = c .before .before .before .before .before .before .before .before .before .before .before .before .sound in
     let t = c .before .before .before .before .before .before .before .before .before .before .before .if1 .left in
-    let p = node-passed k z (v .result) (v .ensures) t (s .args .id) loadingTests _ (c .before .before .before .before .before .before .before .before .check-loading .ensures) (c .before .before .before .before .before .before .enum-told .given .1) in
-    let q = done-passed (loadingTests (getD (k .nodes) (s .args .id) blankNode)) _ (c .before .before .before .before .before .before .before .before .check-loading .ensures) (c .before .before .before .before .before .before .enum-told .given .1) in
+    let p = node-passed k z (v .result) (v .ensures) t (s .args .id) loadingTests _ (c .before .before .before .before .before .before .before .check-loading .ensures) (c .before .before .before .before .before .enum-told .given .1) in
+    let q = done-passed (loadingTests (getD (k .nodes) (s .args .id) blankNode)) _ (c .before .before .before .before .before .before .before .check-loading .ensures) (c .before .before .before .before .before .enum-told .given .1) in
     sym (ap answer (check-done k z (v .result) (v .ensures) t (s .args .id) (p .0, (p .1 .0, (target-gone k z (v .result) (v .ensures) t (s .args .id) (c .before .before .before .target-table .result) (c .before .before .before .target-table .ensures) (q .0) ∙ c .if3 .left, tt)))))
 
 pub check-iteration-spec : {M : Type 1} → statement M
@@ -89,7 +89,7 @@ check-iteration-spec =
     returns
     returns-2
     mul-node
-    element-copy-out-node
+    array-copy-out-node
     check-loading-requires
     enum-known-checked
     returns-3

@@ -25,12 +25,12 @@ sound-requires c κs = search needs
 returns : tie.Need-returns
 returns c =
     let a = c .before .before .args in
-    sym (ap outcome (damaged (a .t1) (Command.configurePendingDependencies (a .id) (a .list)) (c .before .sound .result) (c .before .sound .ensures) (c .if1 .taken)))
+    sym (ap outcome (damaged (a .self) (Command.configurePendingDependencies (a .id) (a .list)) (c .before .sound .result) (c .before .sound .ensures) (c .if1 .taken)))
 
 returns-2 : tie.Need-returns-2
 returns-2 c =
     let s = c .before .before .before in
-    let k = s .args .t1 in
+    let k = s .args .self in
     let z = sized k (s .good .0, tt) in
     let v = c .before .before .sound in
     let t = c .before .if1 .left in
@@ -39,7 +39,7 @@ returns-2 c =
 returns-3 : tie.Need-returns-3
 returns-3 c =
     let s = c .before .before .before .before in
-    let k = s .args .t1 in
+    let k = s .args .self in
     let z = sized k (s .good .0, tt) in
     let v = c .before .before .before .sound in
     let t = c .before .before .if1 .left in
@@ -48,8 +48,8 @@ returns-3 c =
 mul-node : tie.Need-mul-node
 mul-node c = search needs
 
-element-copy-out-node : tie.Need-element-copy-out-node
-element-copy-out-node c = search needs
+array-copy-out-node : tie.Need-array-copy-out-node
+array-copy-out-node c = search needs
 
 check-configure-requires : tie.Need-check-configure-requires
 check-configure-requires c κs = search needs
@@ -59,79 +59,79 @@ enum-known-checked c = search needs
 
 returns-4 : tie.Need-returns-4
 returns-4 c =
-    let s = c .before .before .before .before .before .before .before .before .before in
-    let k = s .args .t1 in
+    let s = c .before .before .before .before .before .before .before .before .before .before in
+    let k = s .args .self in
     let z = sized k (s .good .0, tt) in
-    let v = c .before .before .before .before .before .before .before .before .sound in
-    let t = c .before .before .before .before .before .before .before .if1 .left in
-    sym (ap outcome (refused-by k z (v .result) (v .ensures) t (Command.configurePendingDependencies (s .args .id) (s .args .list)) _ (skip _ _ _ (le-ltb 32 ((s .args .list) .count) (c .before .before .before .before .before .before .if2 .left)) ∙ node-refused k z (v .result) (v .ensures) t (s .args .id) configureNodeTests _ _ _ (c .before .before .before .check-configure .ensures) (c .before .checked .given .1))))
+    let v = c .before .before .before .before .before .before .before .before .before .sound in
+    let t = c .before .before .before .before .before .before .before .before .if1 .left in
+    sym (ap outcome (refused-by k z (v .result) (v .ensures) t (Command.configurePendingDependencies (s .args .id) (s .args .list)) _ (skip _ _ _ (le-ltb 32 ((s .args .list) .count) (c .before .before .before .before .before .before .before .if2 .left)) ∙ node-refused k z (v .result) (v .ensures) t (s .args .id) configureNodeTests _ _ _ (c .before .before .before .check-configure .ensures) (c .before .checked .given .1))))
 
 enum-told : tie.Need-enum-told
 enum-told c = search needs
 
 add-if4 : tie.Need-add-if4
 add-if4 c =
-    let s = c .before .before .before .before .before .before .before .before .before in
-    let k = s .args .t1 in
+    let s = c .before .before .before .before .before .before .before .before .before .before in
+    let k = s .args .self in
     let z = sized k (s .good .0, tt) in
-    let v = c .before .before .before .before .before .before .before .before .sound in
-    let t = c .before .before .before .before .before .before .before .if1 .left in
+    let v = c .before .before .before .before .before .before .before .before .before .sound in
+    let t = c .before .before .before .before .before .before .before .before .if1 .left in
     let fit : k .«declaration_count» ≤ 256 = declarations-fit k z (v .result) (v .ensures) t in
-    let few : (s .args .list) .count ≤ 32 = c .before .before .before .before .before .before .if2 .left in
+    let few : (s .args .list) .count ≤ 32 = c .before .before .before .before .before .before .before .if2 .left in
     omega arith
 
 returns-5 : tie.Need-returns-5
 returns-5 c =
-    let s = c .before .before .before .before .before .before .before .before .before .before in
-    let k = s .args .t1 in
+    let s = c .before .before .before .before .before .before .before .before .before .before .before in
+    let k = s .args .self in
     let z = sized k (s .good .0, tt) in
-    let v = c .before .before .before .before .before .before .before .before .before .sound in
-    let t = c .before .before .before .before .before .before .before .before .if1 .left in
-    sym (ap outcome (refused-by k z (v .result) (v .ensures) t (Command.configurePendingDependencies (s .args .id) (s .args .list)) Error.Capacity (skip _ _ _ (le-ltb 32 ((s .args .list) .count) (c .before .before .before .before .before .before .before .if2 .left)) ∙ node-past k z (v .result) (v .ensures) t (s .args .id) configureNodeTests _ _ (c .before .before .before .before .check-configure .ensures) (c .before .before .enum-told .given .1) ∙ stop _ _ _ (ap (ltb 256) (sum-is k z (v .result) (v .ensures) t (s .args .list) (list-sized (s .args .list) (s .good .1 .1 .0, tt)) (c .before .before .before .before .before .before .before .if2 .left)) ∙ lt-ltb _ _ (c .if4 .taken)))))
+    let v = c .before .before .before .before .before .before .before .before .before .before .sound in
+    let t = c .before .before .before .before .before .before .before .before .before .if1 .left in
+    sym (ap outcome (refused-by k z (v .result) (v .ensures) t (Command.configurePendingDependencies (s .args .id) (s .args .list)) Error.Capacity (skip _ _ _ (le-ltb 32 ((s .args .list) .count) (c .before .before .before .before .before .before .before .before .if2 .left)) ∙ node-past k z (v .result) (v .ensures) t (s .args .id) configureNodeTests _ _ (c .before .before .before .before .check-configure .ensures) (c .before .before .enum-told .given .1) ∙ stop _ _ _ (ap (ltb 256) (sum-is k z (v .result) (v .ensures) t (s .args .list) (list-sized (s .args .list) (s .good .1 .1 .0, tt)) (c .before .before .before .before .before .before .before .before .if2 .left)) ∙ lt-ltb _ _ (c .if4 .taken)))))
 
 distinct-ports-requires : tie.Need-distinct-ports-requires
 distinct-ports-requires c κs = search needs
 
 returns-6 : tie.Need-returns-6
 returns-6 c =
-    let s = c .before .before .before .before .before .before .before .before .before .before .before .before in
-    let k = s .args .t1 in
+    let s = c .before .before .before .before .before .before .before .before .before .before .before .before .before in
+    let k = s .args .self in
     let z = sized k (s .good .0, tt) in
-    let v = c .before .before .before .before .before .before .before .before .before .before .before .sound in
-    let t = c .before .before .before .before .before .before .before .before .before .before .if1 .left in
-    sym (ap outcome (refused-by k z (v .result) (v .ensures) t (Command.configurePendingDependencies (s .args .id) (s .args .list)) Error.Conflict (skip _ _ _ (le-ltb 32 ((s .args .list) .count) (c .before .before .before .before .before .before .before .before .before .if2 .left)) ∙ node-past k z (v .result) (v .ensures) t (s .args .id) configureNodeTests _ _ (c .before .before .before .before .before .before .check-configure .ensures) (c .before .before .before .before .enum-told .given .1) ∙ skip _ _ _ (ap (ltb 256) (sum-is k z (v .result) (v .ensures) t (s .args .list) (list-sized (s .args .list) (s .good .1 .1 .0, tt)) (c .before .before .before .before .before .before .before .before .before .if2 .left)) ∙ le-ltb _ _ (c .before .before .if4 .left)) ∙ stop _ _ _ (ap not (sym (c .before .distinct-ports .ensures)) ∙ c .if5 .taken))))
+    let v = c .before .before .before .before .before .before .before .before .before .before .before .before .sound in
+    let t = c .before .before .before .before .before .before .before .before .before .before .before .if1 .left in
+    sym (ap outcome (refused-by k z (v .result) (v .ensures) t (Command.configurePendingDependencies (s .args .id) (s .args .list)) Error.Conflict (skip _ _ _ (le-ltb 32 ((s .args .list) .count) (c .before .before .before .before .before .before .before .before .before .before .if2 .left)) ∙ node-past k z (v .result) (v .ensures) t (s .args .id) configureNodeTests _ _ (c .before .before .before .before .before .before .check-configure .ensures) (c .before .before .before .before .enum-told .given .1) ∙ skip _ _ _ (ap (ltb 256) (sum-is k z (v .result) (v .ensures) t (s .args .list) (list-sized (s .args .list) (s .good .1 .1 .0, tt)) (c .before .before .before .before .before .before .before .before .before .before .if2 .left)) ∙ le-ltb _ _ (c .before .before .if4 .left)) ∙ stop _ _ _ (ap not (sym (c .before .distinct-ports .ensures)) ∙ c .if5 .taken))))
 
 configured-declarations-requires : tie.Need-configured-declarations-requires
 configured-declarations-requires c κs = search needs
 
 append-ports-requires : tie.Need-append-ports-requires
 append-ports-requires c κs =
-    let s = c .before .before .before .before .before .before .before .before .before .before .before .before .before .before in
-    let k = s .args .t1 in
-    let z = sized k (s .good .0, tt) in
-    let v = c .before .before .before .before .before .before .before .before .before .before .before .before .before .sound in
-    let t = c .before .before .before .before .before .before .before .before .before .before .before .before .if1 .left in
-    (c .before .before .before .before .before .before .before .before .before .before .before .if2 .left, kept-fit k z (v .result) (v .ensures) t (s .args .id) ((s .args .list) .count) (c .before .configured-declarations .result) (c .before .configured-declarations .ensures) (c .before .before .before .before .if4 .left), kept-padded _ (c .before .configured-declarations .result) (c .before .configured-declarations .ensures))
-
-add-self : tie.Need-add-self
-add-self c =
     let s = c .before .before .before .before .before .before .before .before .before .before .before .before .before .before .before in
-    let k = s .args .t1 in
+    let k = s .args .self in
     let z = sized k (s .good .0, tt) in
     let v = c .before .before .before .before .before .before .before .before .before .before .before .before .before .before .sound in
     let t = c .before .before .before .before .before .before .before .before .before .before .before .before .before .if1 .left in
+    (c .before .before .before .before .before .before .before .before .before .before .before .before .if2 .left, kept-fit k z (v .result) (v .ensures) t (s .args .id) ((s .args .list) .count) (c .before .configured-declarations .result) (c .before .configured-declarations .ensures) (c .before .before .before .before .if4 .left), kept-padded _ (c .before .configured-declarations .result) (c .before .configured-declarations .ensures))
+
+add-self : tie.Need-add-self
+add-self c =
+    let s = c .before .before .before .before .before .before .before .before .before .before .before .before .before .before .before .before in
+    let k = s .args .self in
+    let z = sized k (s .good .0, tt) in
+    let v = c .before .before .before .before .before .before .before .before .before .before .before .before .before .before .before .sound in
+    let t = c .before .before .before .before .before .before .before .before .before .before .before .before .before .before .if1 .left in
     let fit : c .before .before .configured-declarations .result .count + (s .args .list) .count ≤ 256 = kept-fit k z (v .result) (v .ensures) t (s .args .id) ((s .args .list) .count) (c .before .before .configured-declarations .result) (c .before .before .configured-declarations .ensures) (c .before .before .before .before .before .if4 .left) in
     omega arith
 
 returns-7 : tie.Need-returns-7
 returns-7 c =
-    let s = c .before .before .before .before .before .before .before .before .before .before .before .before .before .before .before in
-    let k = s .args .t1 in
+    let s = c .before .before .before .before .before .before .before .before .before .before .before .before .before .before .before .before in
+    let k = s .args .self in
     let z = sized k (s .good .0, tt) in
-    let v = c .before .before .before .before .before .before .before .before .before .before .before .before .before .before .sound in
-    let t = c .before .before .before .before .before .before .before .before .before .before .before .before .before .if1 .left in
+    let v = c .before .before .before .before .before .before .before .before .before .before .before .before .before .before .before .sound in
+    let t = c .before .before .before .before .before .before .before .before .before .before .before .before .before .before .if1 .left in
     let p = node-passed k z (v .result) (v .ensures) t (s .args .id) configureNodeTests _ (c .before .before .before .before .before .before .before .before .before .check-configure .ensures) (c .before .before .before .before .before .before .before .enum-told .given .1) in
-    sym (ap outcome (accepted-by k z (v .result) (v .ensures) t (Command.configurePendingDependencies (s .args .id) (s .args .list)) (le-ltb 32 ((s .args .list) .count) (c .before .before .before .before .before .before .before .before .before .before .before .before .if2 .left), (p .0, (p .1 .0, (p .1 .1 .0, (ap (ltb 256) (sum-is k z (v .result) (v .ensures) t (s .args .list) (list-sized (s .args .list) (s .good .1 .1 .0, tt)) (c .before .before .before .before .before .before .before .before .before .before .before .before .if2 .left)) ∙ le-ltb _ _ (c .before .before .before .before .before .if4 .left), (ap not (sym (c .before .before .before .before .distinct-ports .ensures)) ∙ c .before .before .before .if5 .left, tt))))))) ∙ ap (λ (x : Kernel). record { kernel = x; answer = Answer.Done }) (configured k z (v .result) (v .ensures) t (s .args .id) (s .args .list) (c .before .before .configured-declarations .result) (c .append-ports .result) (list-sized (s .args .list) (s .good .1 .1 .0, tt)) (c .before .before .before .before .before .before .before .before .before .before .before .before .if2 .left) (c .before .before .configured-declarations .ensures) (c .append-ports .ensures)))
+    sym (ap outcome (accepted-by k z (v .result) (v .ensures) t (Command.configurePendingDependencies (s .args .id) (s .args .list)) (le-ltb 32 ((s .args .list) .count) (c .before .before .before .before .before .before .before .before .before .before .before .before .before .if2 .left), (p .0, (p .1 .0, (p .1 .1 .0, (ap (ltb 256) (sum-is k z (v .result) (v .ensures) t (s .args .list) (list-sized (s .args .list) (s .good .1 .1 .0, tt)) (c .before .before .before .before .before .before .before .before .before .before .before .before .before .if2 .left)) ∙ le-ltb _ _ (c .before .before .before .before .before .if4 .left), (ap not (sym (c .before .before .before .before .distinct-ports .ensures)) ∙ c .before .before .before .if5 .left, tt))))))) ∙ ap (λ (x : Kernel). record { kernel = x; answer = Answer.Done }) (configured k z (v .result) (v .ensures) t (s .args .id) (s .args .list) (c .before .before .configured-declarations .result) (c .append-ports .result) (list-sized (s .args .list) (s .good .1 .1 .0, tt)) (c .before .before .before .before .before .before .before .before .before .before .before .before .before .if2 .left) (c .before .before .configured-declarations .ensures) (c .append-ports .ensures)))
 
 pub configure-pending-dependencies-spec : {M : Type 1} → statement M
 configure-pending-dependencies-spec =
@@ -142,7 +142,7 @@ configure-pending-dependencies-spec =
     returns-2
     returns-3
     mul-node
-    element-copy-out-node
+    array-copy-out-node
     check-configure-requires
     enum-known-checked
     returns-4

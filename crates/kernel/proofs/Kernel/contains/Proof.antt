@@ -12,20 +12,32 @@ sound-requires : tie.Need-sound-requires
 sound-requires c κs = search needs
 
 returns : tie.Need-returns
-returns c = sym (ask-unsound (c .before .before .args .t1) (c .before .sound .result) false (λ T. contains T (c .before .before .args .id)) (c .before .sound .ensures) (c .if1 .taken))
+returns c = sym (ask-unsound (c .before .before .args .self) (c .before .sound .result) false (λ T. contains T (c .before .before .args .id)) (c .before .sound .ensures) (c .if1 .taken))
 
 returns-2 : tie.Need-returns-2
-returns-2 c = sym (ask-past (c .before .before .before .args .t1) (sized (c .before .before .before .args .t1) (c .before .before .before .good .0, tt)) (c .before .before .sound .result) (c .before .before .sound .ensures) (c .before .if1 .left) false (λ n. n .present) (c .before .before .before .args .id) (c .if2 .taken))
+returns-2 c =
+    let s = c .before .before .before in
+    let k = s .args .self in
+    let z = sized k (s .good .0, tt) in
+    let v = c .before .before .sound in
+    let t = c .before .if1 .left in
+    sym (ask-past k z (v .result) (v .ensures) t false (λ n. n .present) (s .args .id) (c .if2 .taken))
 
 mul-node : tie.Need-mul-node
 mul-node c = search needs
 
-element-copy-out-node : tie.Need-element-copy-out-node
-element-copy-out-node c = search needs
+array-copy-out-node : tie.Need-array-copy-out-node
+array-copy-out-node c = search needs
 
 returns-3 : tie.Need-returns-3
-returns-3 c = sym (ask-node (c .before .before .before .before .args .t1) (sized (c .before .before .before .before .args .t1) (c .before .before .before .before .good .0, tt)) (c .before .before .before .sound .result) (c .before .before .before .sound .ensures) (c .before .before .if1 .left) false (λ n. n .present) (c .before .before .before .before .args .id))
+returns-3 c =
+    let s = c .before .before .before .before .before in
+    let k = s .args .self in
+    let z = sized k (s .good .0, tt) in
+    let v = c .before .before .before .before .sound in
+    let t = c .before .before .before .if1 .left in
+    sym (ask-node k z (v .result) (v .ensures) t false (λ n. n .present) (s .args .id))
 
 pub contains-spec : {M : Type 1} → statement M
 contains-spec =
-    tie.close (tie.spec sound-requires returns returns-2 mul-node element-copy-out-node returns-3)
+    tie.close (tie.spec sound-requires returns returns-2 mul-node array-copy-out-node returns-3)

@@ -25,12 +25,12 @@ sound-requires c κs = search needs
 returns : tie.Need-returns
 returns c =
     let a = c .before .before .args in
-    sym (ap outcome (damaged (a .t1) (Command.finishCleanup (a .id)) (c .before .sound .result) (c .before .sound .ensures) (c .if1 .taken)))
+    sym (ap outcome (damaged (a .self) (Command.finishCleanup (a .id)) (c .before .sound .result) (c .before .sound .ensures) (c .if1 .taken)))
 
 returns-2 : tie.Need-returns-2
 returns-2 c =
     let s = c .before .before .before in
-    let k = s .args .t1 in
+    let k = s .args .self in
     let z = sized k (s .good .0, tt) in
     let v = c .before .before .sound in
     let t = c .before .if1 .left in
@@ -39,8 +39,8 @@ returns-2 c =
 mul-node : tie.Need-mul-node
 mul-node c = search needs
 
-element-copy-out-node : tie.Need-element-copy-out-node
-element-copy-out-node c = search needs
+array-copy-out-node : tie.Need-array-copy-out-node
+array-copy-out-node c = search needs
 
 check-restoring-requires : tie.Need-check-restoring-requires
 check-restoring-requires c κs = search needs
@@ -50,11 +50,11 @@ enum-known-checked c = search needs
 
 returns-3 : tie.Need-returns-3
 returns-3 c =
-    let s = c .before .before .before .before .before .before .before .before in
-    let k = s .args .t1 in
+    let s = c .before .before .before .before .before .before .before .before .before in
+    let k = s .args .self in
     let z = sized k (s .good .0, tt) in
-    let v = c .before .before .before .before .before .before .before .sound in
-    let t = c .before .before .before .before .before .before .if1 .left in
+    let v = c .before .before .before .before .before .before .before .before .sound in
+    let t = c .before .before .before .before .before .before .before .if1 .left in
     sym (ap outcome (refused-by k z (v .result) (v .ensures) t (Command.finishCleanup (s .args .id)) _ (node-refused k z (v .result) (v .ensures) t (s .args .id) restoringTests _ _ _ (c .before .before .before .check-restoring .ensures) (c .before .checked .given .1))))
 
 enum-told : tie.Need-enum-told
@@ -66,19 +66,19 @@ dead-links-requires c κs = search needs
 restored-node-requires : tie.Need-restored-node-requires
 restored-node-requires c κs = search needs
 
-mul-t18 : tie.Need-mul-t18
-mul-t18 c = search needs
+mul-nodes : tie.Need-mul-nodes
+mul-nodes c = search needs
 
-element-set-from-self : tie.Need-element-set-from-self
-element-set-from-self c = search needs
+array-set-from-nodes : tie.Need-array-set-from-nodes
+array-set-from-nodes c = search needs
 
 returns-4 : tie.Need-returns-4
 returns-4 c =
-    let s = c .before .before .before .before .before .before .before .before .before .before in
-    let k = s .args .t1 in
+    let s = c .before .before .before .before .before .before .before .before .before .before .before in
+    let k = s .args .self in
     let z = sized k (s .good .0, tt) in
-    let v = c .before .before .before .before .before .before .before .before .before .sound in
-    let t = c .before .before .before .before .before .before .before .before .if1 .left in
+    let v = c .before .before .before .before .before .before .before .before .before .before .sound in
+    let t = c .before .before .before .before .before .before .before .before .before .if1 .left in
     let p = node-passed k z (v .result) (v .ensures) t (s .args .id) restoringTests _ (c .before .before .before .before .before .check-restoring .ensures) (c .before .before .before .enum-told .given .1) in
     let h : present ((tablesOf (layoutOf k)) .nodes) (s .args .id) ≡ true = not-f _ (p .0) in
     let r : c .restored-node .result ≡ restoredNode (nodeAt ((tablesOf (layoutOf k)) .nodes) (s .args .id)) = c .restored-node .ensures ∙ ap (restoredNode) (sym (node-is k z (v .result) (v .ensures) t (s .args .id))) in
@@ -92,13 +92,13 @@ finish-cleanup-spec =
     returns
     returns-2
     mul-node
-    element-copy-out-node
+    array-copy-out-node
     check-restoring-requires
     enum-known-checked
     returns-3
     enum-told
     dead-links-requires
     restored-node-requires
-    mul-t18
-    element-set-from-self
+    mul-nodes
+    array-set-from-nodes
     returns-4)

@@ -28,12 +28,12 @@ sound-requires c κs = search needs
 returns : tie.Need-returns
 returns c =
     let a = c .before .before .args in
-    sym (ap outcome (damaged (a .t1) (Command.leaveIfChanged (a .id)) (c .before .sound .result) (c .before .sound .ensures) (c .if1 .taken)))
+    sym (ap outcome (damaged (a .self) (Command.leaveIfChanged (a .id)) (c .before .sound .result) (c .before .sound .ensures) (c .if1 .taken)))
 
 returns-2 : tie.Need-returns-2
 returns-2 c =
     let s = c .before .before .before in
-    let k = s .args .t1 in
+    let k = s .args .self in
     let z = sized k (s .good .0, tt) in
     let v = c .before .before .sound in
     let t = c .before .if1 .left in
@@ -42,8 +42,8 @@ returns-2 c =
 mul-node : tie.Need-mul-node
 mul-node c = search needs
 
-element-copy-out-node : tie.Need-element-copy-out-node
-element-copy-out-node c = search needs
+array-copy-out-node : tie.Need-array-copy-out-node
+array-copy-out-node c = search needs
 
 check-running-requires : tie.Need-check-running-requires
 check-running-requires c κs = search needs
@@ -53,11 +53,11 @@ enum-known-checked c = search needs
 
 returns-3 : tie.Need-returns-3
 returns-3 c =
-    let s = c .before .before .before .before .before .before .before .before in
-    let k = s .args .t1 in
+    let s = c .before .before .before .before .before .before .before .before .before in
+    let k = s .args .self in
     let z = sized k (s .good .0, tt) in
-    let v = c .before .before .before .before .before .before .before .sound in
-    let t = c .before .before .before .before .before .before .if1 .left in
+    let v = c .before .before .before .before .before .before .before .before .sound in
+    let t = c .before .before .before .before .before .before .before .if1 .left in
     sym (ap outcome (refused-by k z (v .result) (v .ensures) t (Command.leaveIfChanged (s .args .id)) _ (node-refused k z (v .result) (v .ensures) t (s .args .id) runningTests _ _ _ (c .before .before .before .check-running .ensures) (c .before .checked .given .1))))
 
 enum-told : tie.Need-enum-told
@@ -69,31 +69,31 @@ target-table-requires c κs = search needs
 returns-4 : tie.Need-returns-4
 returns-4 c =
     let s = c .before .before .before .before .before .before .before .before .before .before .before .before .before in
-    let k = s .args .t1 in
+    let k = s .args .self in
     let z = sized k (s .good .0, tt) in
     let v = c .before .before .before .before .before .before .before .before .before .before .before .before .sound in
     let t = c .before .before .before .before .before .before .before .before .before .before .before .if1 .left in
-    let q = done-passed (runningTests (getD (k .nodes) (s .args .id) blankNode)) _ (c .before .before .before .before .before .before .before .before .check-running .ensures) (c .before .before .before .before .before .before .enum-told .given .1) in
-    sym (ap outcome (refused-by k z (v .result) (v .ensures) t (Command.leaveIfChanged (s .args .id)) Error.Changed (node-past k z (v .result) (v .ensures) t (s .args .id) runningTests _ _ (c .before .before .before .before .before .before .before .before .check-running .ensures) (c .before .before .before .before .before .before .enum-told .given .1) ∙ stop _ _ _ (target-there k z (v .result) (v .ensures) t (s .args .id) (c .before .before .before .target-table .result) (c .before .before .before .target-table .ensures) (q .0) ∙ c .if3 .taken))))
+    let q = done-passed (runningTests (getD (k .nodes) (s .args .id) blankNode)) _ (c .before .before .before .before .before .before .before .check-running .ensures) (c .before .before .before .before .before .enum-told .given .1) in
+    sym (ap outcome (refused-by k z (v .result) (v .ensures) t (Command.leaveIfChanged (s .args .id)) Error.Changed (node-past k z (v .result) (v .ensures) t (s .args .id) runningTests _ _ (c .before .before .before .before .before .before .before .check-running .ensures) (c .before .before .before .before .before .enum-told .given .1) ∙ stop _ _ _ (target-there k z (v .result) (v .ensures) t (s .args .id) (c .before .before .before .target-table .result) (c .before .before .before .target-table .ensures) (q .0) ∙ c .if3 .taken))))
 
 with-phase-requires : tie.Need-with-phase-requires
 with-phase-requires c κs = search needs
 
-mul-t20 : tie.Need-mul-t20
-mul-t20 c = search needs
+mul-nodes : tie.Need-mul-nodes
+mul-nodes c = search needs
 
-element-set-from-self : tie.Need-element-set-from-self
-element-set-from-self c = search needs
+array-set-from-nodes : tie.Need-array-set-from-nodes
+array-set-from-nodes c = search needs
 
 returns-5 : tie.Need-returns-5
 returns-5 c =
     let s = c .before .before .before .before .before .before .before .before .before .before .before .before .before .before in
-    let k = s .args .t1 in
+    let k = s .args .self in
     let z = sized k (s .good .0, tt) in
     let v = c .before .before .before .before .before .before .before .before .before .before .before .before .before .sound in
     let t = c .before .before .before .before .before .before .before .before .before .before .before .before .if1 .left in
-    let p = node-passed k z (v .result) (v .ensures) t (s .args .id) runningTests _ (c .before .before .before .before .before .before .before .before .before .check-running .ensures) (c .before .before .before .before .before .before .before .enum-told .given .1) in
-    let q = done-passed (runningTests (getD (k .nodes) (s .args .id) blankNode)) _ (c .before .before .before .before .before .before .before .before .before .check-running .ensures) (c .before .before .before .before .before .before .before .enum-told .given .1) in
+    let p = node-passed k z (v .result) (v .ensures) t (s .args .id) runningTests _ (c .before .before .before .before .before .before .before .before .check-running .ensures) (c .before .before .before .before .before .before .enum-told .given .1) in
+    let q = done-passed (runningTests (getD (k .nodes) (s .args .id) blankNode)) _ (c .before .before .before .before .before .before .before .before .check-running .ensures) (c .before .before .before .before .before .before .enum-told .given .1) in
     let h : present ((tablesOf (layoutOf k)) .nodes) (s .args .id) ≡ true = not-f _ (p .0) in
     let r : c .with-phase .result ≡ withPhase Phase.Unloading (nodeAt ((tablesOf (layoutOf k)) .nodes) (s .args .id)) = c .with-phase .ensures ∙ ap (withPhase Phase.Unloading) (sym (node-is k z (v .result) (v .ensures) t (s .args .id))) in
     sym (ap outcome (accepted-by k z (v .result) (v .ensures) t (Command.leaveIfChanged (s .args .id)) (p .0, (p .1 .0, (target-there k z (v .result) (v .ensures) t (s .args .id) (c .before .before .before .before .target-table .result) (c .before .before .before .before .target-table .ensures) (q .0) ∙ c .before .if3 .left, tt)))) ∙ ap (λ (x : Kernel). record { kernel = x; answer = Answer.Done }) (node-stored k z (v .result) (v .ensures) t (s .args .id) _ h ∙ rw (← r)))
@@ -106,7 +106,7 @@ leave-if-changed-spec =
     returns
     returns-2
     mul-node
-    element-copy-out-node
+    array-copy-out-node
     check-running-requires
     enum-known-checked
     returns-3
@@ -114,6 +114,6 @@ leave-if-changed-spec =
     target-table-requires
     returns-4
     with-phase-requires
-    mul-t20
-    element-set-from-self
+    mul-nodes
+    array-set-from-nodes
     returns-5)

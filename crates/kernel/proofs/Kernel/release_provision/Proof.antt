@@ -24,33 +24,56 @@ sound-requires : tie.Need-sound-requires
 sound-requires c κs = search needs
 
 returns : tie.Need-returns
-returns c = sym (ap outcome (damaged (c .before .before .args .t1) (Command.releaseProvision (c .before .before .args .id) (c .before .before .args .port)) (c .before .sound .result) (c .before .sound .ensures) (c .if1 .taken)))
+returns c = sym (ap outcome (damaged (c .before .before .args .self) (Command.releaseProvision (c .before .before .args .id) (c .before .before .args .port)) (c .before .sound .result) (c .before .sound .ensures) (c .if1 .taken)))
 
 returns-2 : tie.Need-returns-2
-returns-2 c = sym (ap outcome (refused-by (c .before .before .before .args .t1) (sized (c .before .before .before .args .t1) (c .before .before .before .good .0, tt)) (c .before .before .sound .result) (c .before .before .sound .ensures) (c .before .if1 .left) (Command.releaseProvision (c .before .before .before .args .id) (c .before .before .before .args .port)) Error.Unknown (past-unknown (c .before .before .before .args .t1) (sized (c .before .before .before .args .t1) (c .before .before .before .good .0, tt)) (c .before .before .sound .result) (c .before .before .sound .ensures) (c .before .if1 .left) (c .before .before .before .args .id) _ (c .if2 .taken))))
+returns-2 c =
+    let s = c .before .before .before in
+    let k = s .args .self in
+    let z = sized k (s .good .0, tt) in
+    let v = c .before .before .sound in
+    let t = c .before .if1 .left in
+    sym (ap outcome (refused-by k z (v .result) (v .ensures) t (Command.releaseProvision (s .args .id) (s .args .port)) Error.Unknown (past-unknown k z (v .result) (v .ensures) t (s .args .id) _ (c .if2 .taken))))
 
 mul-node : tie.Need-mul-node
 mul-node c = search needs
 
-element-copy-out-node : tie.Need-element-copy-out-node
-element-copy-out-node c = search needs
+array-copy-out-node : tie.Need-array-copy-out-node
+array-copy-out-node c = search needs
 
 returns-3 : tie.Need-returns-3
-returns-3 c = sym (ap outcome (refused-by (c .before .before .before .before .before .before .args .t1) (sized (c .before .before .before .before .before .before .args .t1) (c .before .before .before .before .before .before .good .0, tt)) (c .before .before .before .before .before .sound .result) (c .before .before .before .before .before .sound .ensures) (c .before .before .before .before .if1 .left) (Command.releaseProvision (c .before .before .before .before .before .before .args .id) (c .before .before .before .before .before .before .args .port)) Error.Unknown (absent-unknown (c .before .before .before .before .before .before .args .t1) (sized (c .before .before .before .before .before .before .args .t1) (c .before .before .before .before .before .before .good .0, tt)) (c .before .before .before .before .before .sound .result) (c .before .before .before .before .before .sound .ensures) (c .before .before .before .before .if1 .left) (c .before .before .before .before .before .before .args .id) _ (c .if3 .taken))))
+returns-3 c =
+    let s = c .before .before .before .before .before .before .before in
+    let k = s .args .self in
+    let z = sized k (s .good .0, tt) in
+    let v = c .before .before .before .before .before .before .sound in
+    let t = c .before .before .before .before .before .if1 .left in
+    sym (ap outcome (refused-by k z (v .result) (v .ensures) t (Command.releaseProvision (s .args .id) (s .args .port)) Error.Unknown (absent-unknown k z (v .result) (v .ensures) t (s .args .id) _ (c .if3 .taken))))
 
 relies-on-requires : tie.Need-relies-on-requires
 relies-on-requires c κs = search needs
 
 returns-4 : tie.Need-returns-4
-returns-4 c = sym (ap outcome (refused-by (c .before .before .before .before .before .before .before .before .before .args .t1) (sized (c .before .before .before .before .before .before .before .before .before .args .t1) (c .before .before .before .before .before .before .before .before .before .good .0, tt)) (c .before .before .before .before .before .before .before .before .sound .result) (c .before .before .before .before .before .before .before .before .sound .ensures) (c .before .before .before .before .before .before .before .if1 .left) (Command.releaseProvision (c .before .before .before .before .before .before .before .before .before .args .id) (c .before .before .before .before .before .before .before .before .before .args .port)) Error.Relied (skip _ _ _ (node-has (c .before .before .before .before .before .before .before .before .before .args .t1) (sized (c .before .before .before .before .before .before .before .before .before .args .t1) (c .before .before .before .before .before .before .before .before .before .good .0, tt)) (c .before .before .before .before .before .before .before .before .sound .result) (c .before .before .before .before .before .before .before .before .sound .ensures) (c .before .before .before .before .before .before .before .if1 .left) (λ n. not (n .present)) false (c .before .before .before .before .before .before .before .before .before .args .id) (c .before .before .before .if3 .left)) ∙ stop _ _ _ (link-found (c .before .before .before .before .before .before .before .before .before .args .t1) (reliesOn (c .before .before .before .before .before .before .before .before .before .args .id) (c .before .before .before .before .before .before .before .before .before .args .port)) (c .before .relies-on .result) true (c .before .relies-on .ensures) (c .if4 .taken)))))
+returns-4 c =
+    let s = c .before .before .before .before .before .before .before .before .before .before in
+    let k = s .args .self in
+    let z = sized k (s .good .0, tt) in
+    let v = c .before .before .before .before .before .before .before .before .before .sound in
+    let t = c .before .before .before .before .before .before .before .before .if1 .left in
+    sym (ap outcome (refused-by k z (v .result) (v .ensures) t (Command.releaseProvision (s .args .id) (s .args .port)) Error.Relied (skip _ _ _ (node-has k z (v .result) (v .ensures) t (λ n. not (n .present)) false (s .args .id) (c .before .before .before .if3 .left)) ∙ stop _ _ _ (link-found k (reliesOn (s .args .id) (s .args .port)) (c .before .relies-on .result) true (c .before .relies-on .ensures) (c .if4 .taken)))))
 
 released-declarations-requires : tie.Need-released-declarations-requires
 released-declarations-requires c κs = search needs
 
 returns-5 : tie.Need-returns-5
 returns-5 c =
-    let h : present ((tablesOf (layoutOf (c .before .before .before .before .before .before .before .before .before .before .before .before .args .t1))) .nodes) (c .before .before .before .before .before .before .before .before .before .before .before .before .args .id) ≡ true = node-has (c .before .before .before .before .before .before .before .before .before .before .before .before .args .t1) (sized (c .before .before .before .before .before .before .before .before .before .before .before .before .args .t1) (c .before .before .before .before .before .before .before .before .before .before .before .before .good .0, tt)) (c .before .before .before .before .before .before .before .before .before .before .before .sound .result) (c .before .before .before .before .before .before .before .before .before .before .before .sound .ensures) (c .before .before .before .before .before .before .before .before .before .before .if1 .left) (λ n. n .present) true (c .before .before .before .before .before .before .before .before .before .before .before .before .args .id) (not-false _ (c .before .before .before .before .before .before .if3 .left)) in
-    sym (ap outcome (accepted-by (c .before .before .before .before .before .before .before .before .before .before .before .before .args .t1) (sized (c .before .before .before .before .before .before .before .before .before .before .before .before .args .t1) (c .before .before .before .before .before .before .before .before .before .before .before .before .good .0, tt)) (c .before .before .before .before .before .before .before .before .before .before .before .sound .result) (c .before .before .before .before .before .before .before .before .before .before .before .sound .ensures) (c .before .before .before .before .before .before .before .before .before .before .if1 .left) (Command.releaseProvision (c .before .before .before .before .before .before .before .before .before .before .before .before .args .id) (c .before .before .before .before .before .before .before .before .before .before .before .before .args .port)) (rw h, (link-found (c .before .before .before .before .before .before .before .before .before .before .before .before .args .t1) (reliesOn (c .before .before .before .before .before .before .before .before .before .before .before .before .args .id) (c .before .before .before .before .before .before .before .before .before .before .before .before .args .port)) (c .before .before .before .before .relies-on .result) false (c .before .before .before .before .relies-on .ensures) (c .before .before .before .if4 .left), tt))) ∙ ap (λ (x : Kernel). record { kernel = x; answer = Answer.Done }) (declarations-kept (c .before .before .before .before .before .before .before .before .before .before .before .before .args .t1) (sized (c .before .before .before .before .before .before .before .before .before .before .before .before .args .t1) (c .before .before .before .before .before .before .before .before .before .before .before .before .good .0, tt)) (c .before .before .before .before .before .before .before .before .before .before .before .sound .result) (c .before .before .before .before .before .before .before .before .before .before .before .sound .ensures) (c .before .before .before .before .before .before .before .before .before .before .if1 .left) (λ d. not (isDeclaration (c .before .before .before .before .before .before .before .before .before .before .before .before .args .id) (c .before .before .before .before .before .before .before .before .before .before .before .before .args .port) true d)) (c .before .released-declarations .result) (c .before .released-declarations .ensures)))
+    let s = c .before .before .before .before .before .before .before .before .before .before .before .before .before in
+    let k = s .args .self in
+    let z = sized k (s .good .0, tt) in
+    let v = c .before .before .before .before .before .before .before .before .before .before .before .before .sound in
+    let t = c .before .before .before .before .before .before .before .before .before .before .before .if1 .left in
+    let h : present ((tablesOf (layoutOf k)) .nodes) (s .args .id) ≡ true = node-has k z (v .result) (v .ensures) t (λ n. n .present) true (s .args .id) (not-false _ (c .before .before .before .before .before .before .if3 .left)) in
+    sym (ap outcome (accepted-by k z (v .result) (v .ensures) t (Command.releaseProvision (s .args .id) (s .args .port)) (rw h, (link-found k (reliesOn (s .args .id) (s .args .port)) (c .before .before .before .before .relies-on .result) false (c .before .before .before .before .relies-on .ensures) (c .before .before .before .if4 .left), tt))) ∙ ap (λ (x : Kernel). record { kernel = x; answer = Answer.Done }) (declarations-kept k z (v .result) (v .ensures) t (λ d. not (isDeclaration (s .args .id) (s .args .port) true d)) (c .before .released-declarations .result) (c .before .released-declarations .ensures)))
 
 pub release-provision-spec : {M : Type 1} → statement M
 release-provision-spec =
@@ -60,7 +83,7 @@ release-provision-spec =
     returns
     returns-2
     mul-node
-    element-copy-out-node
+    array-copy-out-node
     returns-3
     relies-on-requires
     returns-4

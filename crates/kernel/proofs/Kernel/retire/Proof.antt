@@ -22,34 +22,51 @@ sound-requires : tie.Need-sound-requires
 sound-requires c κs = search needs
 
 returns : tie.Need-returns
-returns c = sym (ap outcome (damaged (c .before .before .args .t1) (Command.retire (c .before .before .args .id)) (c .before .sound .result) (c .before .sound .ensures) (c .if1 .taken)))
+returns c = sym (ap outcome (damaged (c .before .before .args .self) (Command.retire (c .before .before .args .id)) (c .before .sound .result) (c .before .sound .ensures) (c .if1 .taken)))
 
 returns-2 : tie.Need-returns-2
-returns-2 c = sym (ap outcome (refused-by (c .before .before .before .args .t1) (sized (c .before .before .before .args .t1) (c .before .before .before .good .0, tt)) (c .before .before .sound .result) (c .before .before .sound .ensures) (c .before .if1 .left) (Command.retire (c .before .before .before .args .id)) Error.Unknown (past-unknown (c .before .before .before .args .t1) (sized (c .before .before .before .args .t1) (c .before .before .before .good .0, tt)) (c .before .before .sound .result) (c .before .before .sound .ensures) (c .before .if1 .left) (c .before .before .before .args .id) [] (c .if2 .taken))))
+returns-2 c =
+    let s = c .before .before .before in
+    let k = s .args .self in
+    let z = sized k (s .good .0, tt) in
+    let v = c .before .before .sound in
+    let t = c .before .if1 .left in
+    sym (ap outcome (refused-by k z (v .result) (v .ensures) t (Command.retire (s .args .id)) Error.Unknown (past-unknown k z (v .result) (v .ensures) t (s .args .id) [] (c .if2 .taken))))
 
 mul-node : tie.Need-mul-node
 mul-node c = search needs
 
-element-copy-out-node : tie.Need-element-copy-out-node
-element-copy-out-node c = search needs
+array-copy-out-node : tie.Need-array-copy-out-node
+array-copy-out-node c = search needs
 
 returns-3 : tie.Need-returns-3
-returns-3 c = sym (ap outcome (refused-by (c .before .before .before .before .before .before .args .t1) (sized (c .before .before .before .before .before .before .args .t1) (c .before .before .before .before .before .before .good .0, tt)) (c .before .before .before .before .before .sound .result) (c .before .before .before .before .before .sound .ensures) (c .before .before .before .before .if1 .left) (Command.retire (c .before .before .before .before .before .before .args .id)) Error.Unknown (absent-unknown (c .before .before .before .before .before .before .args .t1) (sized (c .before .before .before .before .before .before .args .t1) (c .before .before .before .before .before .before .good .0, tt)) (c .before .before .before .before .before .sound .result) (c .before .before .before .before .before .sound .ensures) (c .before .before .before .before .if1 .left) (c .before .before .before .before .before .before .args .id) [] (c .if3 .taken))))
+returns-3 c =
+    let s = c .before .before .before .before .before .before .before in
+    let k = s .args .self in
+    let z = sized k (s .good .0, tt) in
+    let v = c .before .before .before .before .before .before .sound in
+    let t = c .before .before .before .before .before .if1 .left in
+    sym (ap outcome (refused-by k z (v .result) (v .ensures) t (Command.retire (s .args .id)) Error.Unknown (absent-unknown k z (v .result) (v .ensures) t (s .args .id) [] (c .if3 .taken))))
 
 retired-node-requires : tie.Need-retired-node-requires
 retired-node-requires c κs = search needs
 
-mul-t14 : tie.Need-mul-t14
-mul-t14 c = search needs
+mul-nodes : tie.Need-mul-nodes
+mul-nodes c = search needs
 
-element-set-from-self : tie.Need-element-set-from-self
-element-set-from-self c = search needs
+array-set-from-nodes : tie.Need-array-set-from-nodes
+array-set-from-nodes c = search needs
 
 returns-4 : tie.Need-returns-4
 returns-4 c =
-    let h : present ((tablesOf (layoutOf (c .before .before .before .before .before .before .before .args .t1))) .nodes) (c .before .before .before .before .before .before .before .args .id) ≡ true = node-has (c .before .before .before .before .before .before .before .args .t1) (sized (c .before .before .before .before .before .before .before .args .t1) (c .before .before .before .before .before .before .before .good .0, tt)) (c .before .before .before .before .before .before .sound .result) (c .before .before .before .before .before .before .sound .ensures) (c .before .before .before .before .before .if1 .left) (λ n. n .present) true (c .before .before .before .before .before .before .before .args .id) (not-false _ (c .before .if3 .left)) in
-    let r : c .retired-node .result ≡ retiredNode (nodeAt ((tablesOf (layoutOf (c .before .before .before .before .before .before .before .args .t1))) .nodes) (c .before .before .before .before .before .before .before .args .id)) = c .retired-node .ensures ∙ ap retiredNode (sym (node-is (c .before .before .before .before .before .before .before .args .t1) (sized (c .before .before .before .before .before .before .before .args .t1) (c .before .before .before .before .before .before .before .good .0, tt)) (c .before .before .before .before .before .before .sound .result) (c .before .before .before .before .before .before .sound .ensures) (c .before .before .before .before .before .if1 .left) (c .before .before .before .before .before .before .before .args .id))) in
-    sym (ap outcome (accepted-by (c .before .before .before .before .before .before .before .args .t1) (sized (c .before .before .before .before .before .before .before .args .t1) (c .before .before .before .before .before .before .before .good .0, tt)) (c .before .before .before .before .before .before .sound .result) (c .before .before .before .before .before .before .sound .ensures) (c .before .before .before .before .before .if1 .left) (Command.retire (c .before .before .before .before .before .before .before .args .id)) (rw h, tt)) ∙ ap (λ (x : Kernel). record { kernel = x; answer = Answer.Done }) (node-stored (c .before .before .before .before .before .before .before .args .t1) (sized (c .before .before .before .before .before .before .before .args .t1) (c .before .before .before .before .before .before .before .good .0, tt)) (c .before .before .before .before .before .before .sound .result) (c .before .before .before .before .before .before .sound .ensures) (c .before .before .before .before .before .if1 .left) (c .before .before .before .before .before .before .before .args .id) _ h ∙ rw (← r)))
+    let s = c .before .before .before .before .before .before .before .before in
+    let k = s .args .self in
+    let z = sized k (s .good .0, tt) in
+    let v = c .before .before .before .before .before .before .before .sound in
+    let t = c .before .before .before .before .before .before .if1 .left in
+    let h : present ((tablesOf (layoutOf k)) .nodes) (s .args .id) ≡ true = node-has k z (v .result) (v .ensures) t (λ n. n .present) true (s .args .id) (not-false _ (c .before .if3 .left)) in
+    let r : c .retired-node .result ≡ retiredNode (nodeAt ((tablesOf (layoutOf k)) .nodes) (s .args .id)) = c .retired-node .ensures ∙ ap retiredNode (sym (node-is k z (v .result) (v .ensures) t (s .args .id))) in
+    sym (ap outcome (accepted-by k z (v .result) (v .ensures) t (Command.retire (s .args .id)) (rw h, tt)) ∙ ap (λ (x : Kernel). record { kernel = x; answer = Answer.Done }) (node-stored k z (v .result) (v .ensures) t (s .args .id) _ h ∙ rw (← r)))
 
 pub retire-spec : {M : Type 1} → statement M
 retire-spec =
@@ -59,9 +76,9 @@ retire-spec =
     returns
     returns-2
     mul-node
-    element-copy-out-node
+    array-copy-out-node
     returns-3
     retired-node-requires
-    mul-t14
-    element-set-from-self
+    mul-nodes
+    array-set-from-nodes
     returns-4)

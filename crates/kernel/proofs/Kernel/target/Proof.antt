@@ -28,36 +28,54 @@ no-target-requires c κs = search needs
 
 returns : tie.Need-returns
 returns c = c .no-target .ensures
-    ∙ sym (ap targetBindings (ask-unsound (c .before .before .before .args .t1) (c .before .before .sound .result) none (λ T. target T (c .before .before .before .args .id)) (c .before .before .sound .ensures) (c .before .if1 .taken)))
+    ∙ sym (ap targetBindings (ask-unsound (c .before .before .before .args .self) (c .before .before .sound .result) none (λ T. target T (c .before .before .before .args .id)) (c .before .before .sound .ensures) (c .before .if1 .taken)))
 
 no-target-requires-2 : tie.Need-no-target-requires-2
 no-target-requires-2 c κs = search needs
 
 returns-2 : tie.Need-returns-2
-returns-2 c = c .no-target2 .ensures
-    ∙ sym (ap targetBindings (ask-sound (c .before .before .before .before .args .t1) (sized (c .before .before .before .before .args .t1) (c .before .before .before .before .good .0, tt)) (c .before .before .before .sound .result) (c .before .before .before .sound .ensures) (c .before .before .if1 .left) none (λ T. target T (c .before .before .before .before .args .id)) ∙ target-none (tablesOf (layoutOf (c .before .before .before .before .args .t1))) (c .before .before .before .before .args .id) (ap (λ (x : Node). not (x .present) || x .retired) (node-in-array controller (layoutOf (c .before .before .before .before .args .t1)) (sized (c .before .before .before .before .args .t1) (c .before .before .before .before .good .0, tt)) (is-sound (c .before .before .before .before .args .t1) (sized (c .before .before .before .before .args .t1) (c .before .before .before .before .good .0, tt)) (c .before .before .before .sound .result) (c .before .before .before .sound .ensures) (c .before .before .if1 .left)) (c .before .before .before .before .args .id) ∙ List·getD-eq-default (c .before .before .before .before .args .t1 .nodes) blankNode {n = (c .before .before .before .before .args .id)} (omega (arith, sized (c .before .before .before .before .args .t1) (c .before .before .before .before .good .0, tt) .nodes, c .before .if2 .taken))))))
+returns-2 c =
+    let s = c .before .before .before .before in
+    let k = s .args .self in
+    let z = sized k (s .good .0, tt) in
+    let v = c .before .before .before .sound in
+    let t = c .before .before .if1 .left in
+    c .no-target2 .ensures
+    ∙ sym (ap targetBindings (ask-sound k z (v .result) (v .ensures) t none (λ T. target T (s .args .id)) ∙ target-none (tablesOf (layoutOf k)) (s .args .id) (ap (λ (x : Node). not (x .present) || x .retired) (node-in-array controller (layoutOf k) z (is-sound k z (v .result) (v .ensures) t) (s .args .id) ∙ List·getD-eq-default (k .nodes) blankNode {n = s .args .id} (omega (arith, z .nodes, c .before .if2 .taken))))))
 
 mul-node : tie.Need-mul-node
 mul-node c = search needs
 
-element-copy-out-node : tie.Need-element-copy-out-node
-element-copy-out-node c = search needs
+array-copy-out-node : tie.Need-array-copy-out-node
+array-copy-out-node c = search needs
 
 no-target-requires-3 : tie.Need-no-target-requires-3
 no-target-requires-3 c κs = search needs
 
 returns-3 : tie.Need-returns-3
-returns-3 c = c .no-target3 .ensures
-    ∙ sym (ap targetBindings (ask-sound (c .before .before .before .before .before .before .before .before .args .t1) (sized (c .before .before .before .before .before .before .before .before .args .t1) (c .before .before .before .before .before .before .before .before .good .0, tt)) (c .before .before .before .before .before .before .before .sound .result) (c .before .before .before .before .before .before .before .sound .ensures) (c .before .before .before .before .before .before .if1 .left) none (λ T. target T (c .before .before .before .before .before .before .before .before .args .id)) ∙ target-none (tablesOf (layoutOf (c .before .before .before .before .before .before .before .before .args .t1))) (c .before .before .before .before .before .before .before .before .args .id) (ap (λ (x : Node). not (x .present) || x .retired) (node-in-array controller (layoutOf (c .before .before .before .before .before .before .before .before .args .t1)) (sized (c .before .before .before .before .before .before .before .before .args .t1) (c .before .before .before .before .before .before .before .before .good .0, tt)) (is-sound (c .before .before .before .before .before .before .before .before .args .t1) (sized (c .before .before .before .before .before .before .before .before .args .t1) (c .before .before .before .before .before .before .before .before .good .0, tt)) (c .before .before .before .before .before .before .before .sound .result) (c .before .before .before .before .before .before .before .sound .ensures) (c .before .before .before .before .before .before .if1 .left)) (c .before .before .before .before .before .before .before .before .args .id)) ∙ c .before .if3 .taken)))
+returns-3 c =
+    let s = c .before .before .before .before .before .before .before .before .before in
+    let k = s .args .self in
+    let z = sized k (s .good .0, tt) in
+    let v = c .before .before .before .before .before .before .before .before .sound in
+    let t = c .before .before .before .before .before .before .before .if1 .left in
+    c .no-target3 .ensures
+    ∙ sym (ap targetBindings (ask-sound k z (v .result) (v .ensures) t none (λ T. target T (s .args .id)) ∙ target-none (tablesOf (layoutOf k)) (s .args .id) (ap (λ (x : Node). not (x .present) || x .retired) (node-in-array controller (layoutOf k) z (is-sound k z (v .result) (v .ensures) t) (s .args .id)) ∙ c .before .if3 .taken)))
 
 target-table-requires : tie.Need-target-table-requires
 target-table-requires c κs = search needs
 
 returns-4 : tie.Need-returns-4
 unfolding tablesOf
-returns-4 c = c .target-table .ensures
-    ∙ ap (λ (F : ℕ → Bool). targetBindings (bindPorts (resolve F (take (c .before .before .before .before .before .before .before .before .before .before .args .t1 .«declaration_count») (c .before .before .before .before .before .before .before .before .before .before .args .t1 .declarations))) (dependencyPorts (take (c .before .before .before .before .before .before .before .before .before .before .args .t1 .«declaration_count») (c .before .before .before .before .before .before .before .before .before .before .args .t1 .declarations)) (c .before .before .before .before .before .before .before .before .before .before .args .id)))) (nodes-flagged (c .before .before .before .before .before .before .before .before .before .before .args .t1) (sized (c .before .before .before .before .before .before .before .before .before .before .args .t1) (c .before .before .before .before .before .before .before .before .before .before .good .0, tt)) (c .before .before .before .before .before .before .before .before .before .sound .result) (c .before .before .before .before .before .before .before .before .before .sound .ensures) (c .before .before .before .before .before .before .before .before .if1 .left) isProviding refl)
-    ∙ sym (ap targetBindings (ask-sound (c .before .before .before .before .before .before .before .before .before .before .args .t1) (sized (c .before .before .before .before .before .before .before .before .before .before .args .t1) (c .before .before .before .before .before .before .before .before .before .before .good .0, tt)) (c .before .before .before .before .before .before .before .before .before .sound .result) (c .before .before .before .before .before .before .before .before .before .sound .ensures) (c .before .before .before .before .before .before .before .before .if1 .left) none (λ T. target T (c .before .before .before .before .before .before .before .before .before .before .args .id)) ∙ target-bound (tablesOf (layoutOf (c .before .before .before .before .before .before .before .before .before .before .args .t1))) (c .before .before .before .before .before .before .before .before .before .before .args .id) (ap (λ (x : Node). not (x .present) || x .retired) (node-in-array controller (layoutOf (c .before .before .before .before .before .before .before .before .before .before .args .t1)) (sized (c .before .before .before .before .before .before .before .before .before .before .args .t1) (c .before .before .before .before .before .before .before .before .before .before .good .0, tt)) (is-sound (c .before .before .before .before .before .before .before .before .before .before .args .t1) (sized (c .before .before .before .before .before .before .before .before .before .before .args .t1) (c .before .before .before .before .before .before .before .before .before .before .good .0, tt)) (c .before .before .before .before .before .before .before .before .before .sound .result) (c .before .before .before .before .before .before .before .before .before .sound .ensures) (c .before .before .before .before .before .before .before .before .if1 .left)) (c .before .before .before .before .before .before .before .before .before .before .args .id)) ∙ c .before .before .before .if3 .left)))
+returns-4 c =
+    let s = c .before .before .before .before .before .before .before .before .before .before in
+    let k = s .args .self in
+    let z = sized k (s .good .0, tt) in
+    let v = c .before .before .before .before .before .before .before .before .before .sound in
+    let t = c .before .before .before .before .before .before .before .before .if1 .left in
+    c .target-table .ensures
+    ∙ ap (λ (F : ℕ → Bool). targetBindings (bindPorts (resolve F (take (k .«declaration_count») (k .declarations))) (dependencyPorts (take (k .«declaration_count») (k .declarations)) (s .args .id)))) (nodes-flagged k z (v .result) (v .ensures) t isProviding refl)
+    ∙ sym (ap targetBindings (ask-sound k z (v .result) (v .ensures) t none (λ T. target T (s .args .id)) ∙ target-bound (tablesOf (layoutOf k)) (s .args .id) (ap (λ (x : Node). not (x .present) || x .retired) (node-in-array controller (layoutOf k) z (is-sound k z (v .result) (v .ensures) t) (s .args .id)) ∙ c .before .before .if3 .left)))
 
 pub target-spec : {M : Type 1} → statement M
 target-spec =
@@ -69,7 +87,7 @@ target-spec =
     no-target-requires-2
     returns-2
     mul-node
-    element-copy-out-node
+    array-copy-out-node
     no-target-requires-3
     returns-3
     target-table-requires

@@ -16,9 +16,12 @@ mul-result c = search needs
 add-result : tie.Need-add-result
 add-result c = search needs
 
+mul-result-2 : tie.Need-mul-result-2
+mul-result-2 c = search needs
+
 returns : tie.Need-returns
 unfolding bucketOf
 returns c = search needs
 
 pub bucket-of-spec : {M : Type 1} → statement M
-bucket-of-spec = tie.close (tie.spec mul-port add-port mul-result add-result returns)
+bucket-of-spec = tie.close (tie.spec mul-port add-port mul-result add-result mul-result-2 returns)

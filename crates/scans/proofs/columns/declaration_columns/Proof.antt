@@ -1,20 +1,20 @@
--- `scans::columns::declaration_columns` meets its contract. Each column holds its field of the declarations below the place reached; what is left to test answers as the whole does.
+-- `scans::columns::declaration_columns` meets its contract. Each column holds its field of the declarations below the place reached; those past the count are joined into one, which is blank where they are.
 use mathlib.Core.Path.{_∙_, _≡_, ap, sym}
+use mathlib.Core.Bool.{_&&_}
 use mathlib.Core.List.{[], _++_, _∷_}
-use Prim.Native.Nat.{_+_, _-_, _<_, _≤_, ℕ}
+use Prim.Native.Nat.{_+_, _-_, _<_, _≤_}
 use native.Mathlib.Omega.{arith}
 use native.Mathlib.Numerals.{add-one}
 use lib.ListN.{drop, getD, length, take}
 use lib.Seq.{length-take-le, take-suc}
 use borrow.Author.Needs.{needs}
-use borrow.Author.Tests.{not-false, not-true}
 use Rattle.model.specs.declared.Declaration.{Declaration}
 use Rattle.model.specs.Lists.{all}
 use Rattle.model.specs.Records.{blankDeclaration, isBlankDeclaration}
 use Rattle.scans.proofs.Laws.Columns.{rows-most}
 use Rattle.scans.proofs.Laws.Filled.{Filled, declaration-row, filled-next, filled-none, first-rows}
-use Rattle.scans.proofs.Laws.Scan.{all-done, all-hit, all-next, drop-most, rest-done, rest-next, take-most}
-use Rattle.scans.specs.Columns.{declarationAt, declarationsOf, linksOf}
+use Rattle.scans.proofs.Laws.Scan.{all-join, drop-most, join-done, rest-done, rest-next, take-most}
+use Rattle.scans.specs.Columns.{declarationAt, declarationsOf}
 use Rattle.scans.proofs.columns.declaration_columns.Statement.{statement}
 use Rattle.scans.proofs.columns.declaration_columns.Tie as tie
 
@@ -30,11 +30,11 @@ abbrev μ-loop : tie.MeasureT-loop
 μ-loop count owner₀ key₀ realm₀ provides₀ declarations end i₀ owner key realm provides i = end - i
 
 abbrev Inv-loop2 : tie.InvT-loop2
-Inv-loop2 count owner key realm provides declarations end i₀ i =
-    (take count (declarationsOf 256 owner key realm provides) ≡ take count declarations) × (all isBlankDeclaration (drop i declarations) ≡ all isBlankDeclaration (drop count declarations))
+Inv-loop2 count owner key realm provides declarations end i₀ rest₀ i rest =
+    (take count (declarationsOf 256 owner key realm provides) ≡ take count declarations) × (isBlankDeclaration rest && all isBlankDeclaration (drop i declarations) ≡ all isBlankDeclaration (drop count declarations))
 
 abbrev μ-loop2 : tie.MeasureT-loop2
-μ-loop2 count owner key realm provides declarations end i₀ i = 256 - i
+μ-loop2 count owner key realm provides declarations end i₀ rest₀ i rest = 256 - i
 
 at-most-requires : tie.Need-at-most-requires Inv-loop μ-loop Inv-loop2 μ-loop2
 at-most-requires c κs = search needs
@@ -84,18 +84,21 @@ loop-again c =
     let l : j .i < 256 = omega arith in
     (omega arith, rw e (filled-next _ 256 (j .i) (j .owner) _ d l (j .inv .1)), rw e (filled-next _ 256 (j .i) (j .key) _ d l (j .inv .2)), rw e (filled-next _ 256 (j .i) (j .realm) _ d l (j .inv .3)), rw e (filled-next _ 256 (j .i) (j .provides) _ d l (j .inv .4)))
 
+blank-declaration-requires : tie.Need-blank-declaration-requires Inv-loop μ-loop Inv-loop2 μ-loop2
+blank-declaration-requires c κs = search needs
+
 loop2-holds : tie.Need-loop2-holds Inv-loop μ-loop Inv-loop2 μ-loop2
-unfolding declarationsOf linksOf
+unfolding declarationsOf
 loop2-holds c =
-    let a = c .before .before .before .args in
+    let a = c .before .before .before .before .args in
     let ds = a .t1 in
-    let end = c .before .before .at-most in
-    let j = c .before .loop in
+    let end = c .before .before .before .at-most in
+    let j = c .before .before .loop in
     let row = declarationAt (j .owner) (j .key) (j .realm) (j .provides) in
     let len : j .i ≡ length (take (j .i) ds) = sym (length-take-le (j .i) ds (omega arith)) in
     let same = first-rows (take (j .i) ds) 256 (j .i) row blankDeclaration len (omega arith) (declaration-row 256 (j .i) (j .owner) (j .key) (j .realm) (j .provides) (take (j .i) ds) len (j .inv .1) (j .inv .2) (j .inv .3) (j .inv .4)) in
     let e : j .i ≡ end .result = omega arith in
-    (sym (rows-most (a .count) 256 _ row (end .ensures)) ∙ (rw e at same) ∙ take-most (a .count) 256 _ ds (omega arith) (end .ensures), ap (λ (i : ℕ). all isBlankDeclaration (drop i ds)) e ∙ ap (all isBlankDeclaration) (drop-most (a .count) 256 _ ds (omega arith) (end .ensures)))
+    (sym (rows-most (a .count) 256 _ row (end .ensures)) ∙ (rw e at same) ∙ take-most (a .count) 256 _ ds (omega arith) (end .ensures), rw (c .blank-declaration .ensures, e) (ap (all isBlankDeclaration) (drop-most (a .count) 256 _ ds (omega arith) (end .ensures))))
 
 mul-d-2 : tie.Need-mul-d-2 Inv-loop μ-loop Inv-loop2 μ-loop2
 mul-d-2 c = omega arith
@@ -103,14 +106,8 @@ mul-d-2 c = omega arith
 array-copy-out-d-2 : tie.Need-array-copy-out-d-2 Inv-loop μ-loop Inv-loop2 μ-loop2
 array-copy-out-d-2 c = omega arith
 
-is-blank-declaration-requires : tie.Need-is-blank-declaration-requires Inv-loop μ-loop Inv-loop2 μ-loop2
-is-blank-declaration-requires c κs = search needs
-
-returns : tie.Need-returns Inv-loop μ-loop Inv-loop2 μ-loop2
-returns c =
-    let j = c .before .before .before .before .loop2 in
-    let xs = c .before .before .before .before .before .before .before .before .args .t1 in
-    (j .inv .0, all-hit isBlankDeclaration _ _ _ _ (rest-next blankDeclaration (j .i) xs (omega arith)) (j .inv .1) (sym (c .before .is-blank-declaration .ensures) ∙ not-true _ (c .if1 .taken)))
+either-declaration-requires : tie.Need-either-declaration-requires Inv-loop μ-loop Inv-loop2 μ-loop2
+either-declaration-requires c κs = search needs
 
 add-i-2 : tie.Need-add-i-2 Inv-loop μ-loop Inv-loop2 μ-loop2
 add-i-2 c = omega arith
@@ -120,14 +117,18 @@ loop2-less c = omega arith
 
 loop2-again : tie.Need-loop2-again Inv-loop μ-loop Inv-loop2 μ-loop2
 loop2-again c =
-    let j = c .before .before .before .before .loop2 in
+    let j = c .before .before .before .loop2 in
     let xs = c .before .before .before .before .before .before .before .before .args .t1 in
-    (j .inv .0, all-next isBlankDeclaration _ _ _ _ (rest-next blankDeclaration (j .i) xs (omega arith)) (j .inv .1) (sym (c .before .is-blank-declaration .ensures) ∙ not-false _ (c .if1 .left)))
+    (j .inv .0, all-join isBlankDeclaration _ _ _ (j .rest) (c .either-declaration .result) _ (rest-next blankDeclaration (j .i) xs (omega arith)) (j .inv .1) (c .either-declaration .ensures))
 
-returns-2 : tie.Need-returns-2 Inv-loop μ-loop Inv-loop2 μ-loop2
-returns-2 c =
-    let j = c .before .loop2 in
-    (j .inv .0, all-done isBlankDeclaration _ _ (rest-done (j .i) (c .before .before .before .before .before .args .t1) (omega arith)) (j .inv .1))
+is-blank-declaration-requires : tie.Need-is-blank-declaration-requires Inv-loop μ-loop Inv-loop2 μ-loop2
+is-blank-declaration-requires c κs = search needs
+
+returns : tie.Need-returns Inv-loop μ-loop Inv-loop2 μ-loop2
+returns c =
+    let j = c .before .before .loop2 in
+    let xs = c .before .before .before .before .before .before .before .args .t1 in
+    (j .inv .0, c .is-blank-declaration .ensures ∙ join-done isBlankDeclaration _ (j .rest) _ (rest-done (j .i) xs (omega arith)) (j .inv .1))
 
 pub declaration-columns-spec : {M : Type 1} → statement M
 declaration-columns-spec =
@@ -151,12 +152,13 @@ declaration-columns-spec =
     add-i
     loop-less
     loop-again
+    blank-declaration-requires
     loop2-holds
     mul-d-2
     array-copy-out-d-2
-    is-blank-declaration-requires
-    returns
+    either-declaration-requires
     add-i-2
     loop2-less
     loop2-again
-    returns-2)
+    is-blank-declaration-requires
+    returns)

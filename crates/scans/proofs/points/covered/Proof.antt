@@ -1,47 +1,38 @@
--- `scans::points::covered` meets its contract. What is left of the columns answers as the whole does, whatever the providers are.
-use mathlib.Core.Path.{_≡_, ap}
-use mathlib.Core.Bool.{Bool}
+-- `scans::points::covered` meets its contract. What is left of the columns answers as the whole does, whatever the ports are and whichever links meet the dependencies.
+use mathlib.Core.Path.{_∙_, _≡_, ap}
+use mathlib.Core.Bool.{Bool, _&&_, false, not, true}
 use mathlib.Core.List.{List}
-use mathlib.Core.Logic.{⊎-elim}
-use Prim.Native.Nat.{_-_, ℕ}
+use Prim.Native.Nat.{_-_, _<_, ℕ}
 use native.Mathlib.Omega.{arith}
-use lib.ListN.{take}
+use lib.ListN.{getD, take}
 use lib.Seq.{slice}
 use borrow.Author.Needs.{needs}
-use borrow.Author.Tests.{not-false, not-true}
-use Rattle.model.specs.declared.Declaration.{Declaration}
-use Rattle.model.specs.Lists.{all}
+use Rattle.model.specs.declared.Link.{Link}
+use Rattle.model.specs.Lists.{all, any}
 use Rattle.model.specs.Soundness.{isCovered}
 use Rattle.scans.proofs.Laws.Columns.{rows-most, rows-next}
+use Rattle.scans.proofs.Laws.Marking.{met-covered}
 use Rattle.scans.proofs.Laws.Scan.{all-done, all-hit, all-next, part-done}
-use Rattle.scans.specs.Columns.{declarationAt, declarationsOf, flag, linkAt, linksOf}
+use Rattle.scans.specs.Columns.{declarationAt, declarationsOf, flag, rowsFrom}
+use Rattle.scans.specs.Marks.{meets}
 use Rattle.scans.proofs.points.covered.Statement.{statement}
 use Rattle.scans.proofs.points.covered.Tie as tie
 
--- the test of a declaration, with the live links of a column of providers
-abbrev test : List Bool → ℕ → List ℕ → List ℕ → List ℕ → List ℕ → Declaration → Bool
-test installed live consumer key realm provider = isCovered (flag 64 installed) (take live (linksOf 512 consumer key realm provider))
-
 abbrev Inv-loop : tie.InvT-loop
-Inv-loop owner key realm provides count installed consumer link-key link-realm live size first next end i₀ i = (provider : List ℕ) → all (test installed live consumer link-key link-realm provider) (slice i end (declarationsOf 256 owner key realm provides)) ≡ all (test installed live consumer link-key link-realm provider) (take count (declarationsOf 256 owner key realm provides))
+Inv-loop owner provides count installed met end i₀ i =
+    (key realm : List ℕ) (ls : List Link) → ((k : ℕ) → k < count → k < 256 → getD met k false ≡ any (meets (declarationAt owner key realm provides k)) ls) → all (isCovered (flag 64 installed) ls) (slice i end (declarationsOf 256 owner key realm provides)) ≡ all (isCovered (flag 64 installed) ls) (take count (declarationsOf 256 owner key realm provides))
 
 abbrev μ-loop : tie.MeasureT-loop
-μ-loop owner key realm provides count installed consumer link-key link-realm live size first next end i₀ i = end - i
+μ-loop owner provides count installed met end i₀ i = end - i
 
 at-most-requires : tie.Need-at-most-requires Inv-loop μ-loop
 at-most-requires c κs = search needs
 
-chain-links-requires : tie.Need-chain-links-requires Inv-loop μ-loop
-chain-links-requires c κs = search needs
-
-at-most-requires-2 : tie.Need-at-most-requires-2 Inv-loop μ-loop
-at-most-requires-2 c κs = search needs
-
 loop-holds : tie.Need-loop-holds Inv-loop μ-loop
-unfolding declarationsOf linksOf
+unfolding declarationsOf
 loop-holds c =
-    let a = c .before .before .before .before .before .args in
-    λ provider. ap (all (test (a .installed .now) (a .live) (a .consumer .now) (a .link-key .now) (a .link-realm .now) provider)) (rows-most (a .count) 256 _ (declarationAt (a .owner .now) (a .key .now) (a .realm .now) (a .provides .now)) (c .at-most2 .ensures))
+    let a = c .before .args in
+    λ key realm ls h. ap (all (isCovered (flag 64 (a .installed .now)) ls)) (rows-most (a .count) 256 _ (declarationAt (a .owner .now) key realm (a .provides .now)) (c .at-most .ensures))
 
 mul-o : tie.Need-mul-o Inv-loop μ-loop
 mul-o c = omega arith
@@ -55,29 +46,22 @@ flag-at-requires c κs = search needs
 element-copy-out-if1 : tie.Need-element-copy-out-if1 Inv-loop μ-loop
 element-copy-out-if1 c = omega arith
 
-mul-t31 : tie.Need-mul-t31 Inv-loop μ-loop
-mul-t31 c = omega arith
-
-element-copy-out-t34 : tie.Need-element-copy-out-t34 Inv-loop μ-loop
-element-copy-out-t34 c = omega arith
-
-mul-t35 : tie.Need-mul-t35 Inv-loop μ-loop
-mul-t35 c = omega arith
-
-element-copy-out-t38 : tie.Need-element-copy-out-t38 Inv-loop μ-loop
-element-copy-out-t38 c = omega arith
-
-linked-requires : tie.Need-linked-requires Inv-loop μ-loop
-linked-requires c κs = c .before .before .before .before .before .before .before .before .before .before .before .chain-links .ensures
+element-copy-out-if1-2 : tie.Need-element-copy-out-if1-2 Inv-loop μ-loop
+element-copy-out-if1-2 c = omega arith
 
 returns : tie.Need-returns Inv-loop μ-loop
-unfolding isCovered declarationsOf linksOf
+unfolding declarationsOf
 returns c =
-    let s = c .before .before .before .before .before .before .before .before .before .before .before in
-    let a = s .before .before .before .before .before .before .args in
-    let need = c .before .before .before .before .before .before .if1 .taken in
-    let unlinked = not-true (c .before .linked .result) (c .if2 .taken) in
-    λ provider. all-hit (test (a .installed .now) (a .live) (a .consumer .now) (a .link-key .now) (a .link-realm .now) provider) _ _ _ _ (rows-next 256 (s .loop .i) (s .before .at-most2 .result) (declarationAt (a .owner .now) (a .key .now) (a .realm .now) (a .provides .now)) (c .before .before .before .before .before .before .before .before .before .before .loop-test .taken) (s .before .at-most2 .ensures .within)) (s .loop .inv provider) (rw (← (c .before .before .before .before .before .before .before .before .flag-at .ensures), need, ← (rows-most (a .live) 512 _ (linkAt (a .consumer .now) (a .link-key .now) (a .link-realm .now) provider) (s .before .before .before .before .before .at-most .ensures)), ← (c .before .linked .ensures provider), unlinked))
+    let s = c .before .before .before .before .before in
+    let a = s .before .before .before .args in
+    let j = s .before .loop in
+    let m = s .before .before .at-most in
+    let l = s .loop-test .taken in
+    let t : not (getD (a .provides .now) (j .i) false) && flag 64 (a .installed .now) (getD (a .owner .now) (j .i) 0) && not (getD (a .met .now) (j .i) false) ≡ true = rw (c .before .before .before .flag-at .ensures) at (c .if1 .taken) in
+    λ key realm ls h. (
+    let row = declarationAt (a .owner .now) key realm (a .provides .now) in
+    all-hit (isCovered (flag 64 (a .installed .now)) ls) _ _ _ _ (rows-next 256 (j .i) (m .result) row l (m .ensures .within)) (j .inv key realm ls h) (met-covered (flag 64 (a .installed .now)) ls (row (j .i)) _ (h (j .i) (omega (arith, m .ensures .below)) (omega (arith, m .ensures .within))) ∙ ap not t)
+    )
 
 add-i : tie.Need-add-i Inv-loop μ-loop
 add-i c = omega arith
@@ -86,17 +70,25 @@ loop-less : tie.Need-loop-less Inv-loop μ-loop
 loop-less c = omega arith
 
 loop-again : tie.Need-loop-again Inv-loop μ-loop
-unfolding isCovered declarationsOf linksOf
+unfolding declarationsOf
 loop-again c =
     let s = c .before .before .before .before .before in
-    let a = s .before .before .before .before .before .before .args in
-    let flagged = c .before .before .flag-at .ensures in
-    λ provider. all-next (test (a .installed .now) (a .live) (a .consumer .now) (a .link-key .now) (a .link-realm .now) provider) _ _ _ _ (rows-next 256 (s .loop .i) (s .before .at-most2 .result) (declarationAt (a .owner .now) (a .key .now) (a .realm .now) (a .provides .now)) (omega arith) (omega arith)) (s .loop .inv provider) (⊎-elim (λ w. rw (← flagged, w .0 .taken, ← (rows-most (a .live) 512 _ (linkAt (a .consumer .now) (a .link-key .now) (a .link-realm .now) provider) (s .before .before .before .before .before .at-most .ensures)), ← (w .5 .ensures provider), not-false (w .5 .result) (w .6 .left))) (λ w. rw (← flagged, w .left)) (c .if1 .came))
+    let a = s .before .before .before .args in
+    let j = s .before .loop in
+    let m = s .before .before .at-most in
+    let l = s .loop-test .taken in
+    let t : not (getD (a .provides .now) (j .i) false) && flag 64 (a .installed .now) (getD (a .owner .now) (j .i) 0) && not (getD (a .met .now) (j .i) false) ≡ false = rw (c .before .before .before .flag-at .ensures) at (c .if1 .left) in
+    λ key realm ls h. (
+    let row = declarationAt (a .owner .now) key realm (a .provides .now) in
+    all-next (isCovered (flag 64 (a .installed .now)) ls) _ _ _ _ (rows-next 256 (j .i) (m .result) row l (m .ensures .within)) (j .inv key realm ls h) (met-covered (flag 64 (a .installed .now)) ls (row (j .i)) _ (h (j .i) (omega (arith, m .ensures .below)) (omega (arith, m .ensures .within))) ∙ ap not t)
+    )
 
 returns-2 : tie.Need-returns-2 Inv-loop μ-loop
+unfolding declarationsOf
 returns-2 c =
-    let a = c .before .before .before .before .before .before .before .args in
-    λ provider. all-done (test (a .installed .now) (a .live) (a .consumer .now) (a .link-key .now) (a .link-realm .now) provider) _ _ (part-done (c .before .loop .i) (c .before .before .at-most2 .result) (declarationsOf 256 (a .owner .now) (a .key .now) (a .realm .now) (a .provides .now)) (c .loop-test .left)) (c .before .loop .inv provider)
+    let a = c .before .before .before .args in
+    let j = c .before .loop in
+    λ key realm ls h. all-done (isCovered (flag 64 (a .installed .now)) ls) _ _ (part-done (j .i) (c .before .before .at-most .result) (rowsFrom 0 256 (declarationAt (a .owner .now) key realm (a .provides .now))) (c .loop-test .left)) (j .inv key realm ls h)
 
 pub covered-spec : {M : Type 1} → statement M
 covered-spec =
@@ -105,18 +97,12 @@ covered-spec =
     Inv-loop
     μ-loop
     at-most-requires
-    chain-links-requires
-    at-most-requires-2
     loop-holds
     mul-o
     element-copy-out-o
     flag-at-requires
     element-copy-out-if1
-    mul-t31
-    element-copy-out-t34
-    mul-t35
-    element-copy-out-t38
-    linked-requires
+    element-copy-out-if1-2
     returns
     add-i
     loop-less

@@ -1,138 +1,182 @@
--- `scans::points::links_ok` meets its contract. What is left of the columns of links answers as the whole does.
-use mathlib.Core.Path.{_≡_, ap}
-use mathlib.Core.Bool.{false, true}
-use Prim.Native.Nat.{_-_}
+-- `scans::points::links_ok` meets its contract. What is left of the links, with the marks so far, answers as the whole does; the marks on dependencies tell what the links so far meet.
+use mathlib.Core.Path.{_∙_, _≡_, ap, refl, sym}
+use mathlib.Core.Bool.{Bool, _&&_, _||_, false, true}
+use mathlib.Core.List.{List}
+use Prim.Native.Nat.{_-_, _<_, _≤_, ℕ}
 use native.Mathlib.Omega.{arith}
-use lib.ListN.{take}
+use native.Mathlib.Numerals.{add-one}
+use lib.ListN.{drop, getD, getD-replicate, length, take}
 use lib.Seq.{slice}
 use borrow.Author.Needs.{needs}
 use borrow.Author.Tests.{not-false, not-true}
-use Rattle.model.specs.Lists.{all, conj}
-use Rattle.model.specs.Records.{portOf}
-use Rattle.model.specs.Soundness.{declares, linkOk, linkTests}
-use Rattle.scans.proofs.Laws.Columns.{rows-most, rows-next}
-use Rattle.scans.proofs.Laws.Scan.{all-done, all-hit, all-next, part-done}
-use Rattle.scans.specs.Columns.{declarationAt, declarationsOf, flag, linkAt, linksOf, rowsFrom}
+use Rattle.model.specs.declared.Link.{Link}
+use Rattle.model.proofs.Laws.Booleans.{and-r, clash}
+use Rattle.model.specs.Lists.{all, any}
+use Rattle.model.specs.Records.{blankLink, isBlankLink}
+use Rattle.model.specs.Soundness.{linkOk, ordered}
+use Rattle.scans.proofs.Laws.Chains.{any-more}
+use Rattle.scans.proofs.Laws.Columns.{rows-most}
+use Rattle.scans.proofs.Laws.Marking.{leftToPass, mark-none, pass-done, pass-hit, pass-next, provider-below}
+use Rattle.scans.proofs.Laws.Scan.{all-join, below-most, drop-most, join-done, part-done, part-next, rest-done, rest-next, take-most}
+use Rattle.scans.specs.Columns.{declarationAt, declarationsOf, flag}
+use Rattle.scans.specs.Marks.{marked, meets, unmarked}
 use Rattle.scans.proofs.points.links_ok.Statement.{statement}
 use Rattle.scans.proofs.points.links_ok.Tie as tie
 
 abbrev Inv-loop : tie.InvT-loop
-Inv-loop owner key realm provides count installed serving consumer link-key link-realm provider live size first next end i₀ i =
+Inv-loop linked owner key realm provides count installed serving met₀ links size first next end seen₀ i₀ met seen i =
     let ok = linkOk (flag 64 installed) (flag 64 serving) (take count (declarationsOf 256 owner key realm provides)) in
-    let ls = linksOf 512 consumer link-key link-realm provider in
-    all ok (slice i end ls) ≡ all ok (take live ls)
+    (i ≤ end)
+    × (length seen ≡ 64)
+    × (length met ≡ 256)
+    × (leftToPass ok seen (slice i end links) ≡ all ok (take linked links) && ordered (take linked links))
+    × ((k : ℕ) → k < size → getD met k false ≡ any (meets (declarationAt owner key realm provides k)) (take i links))
 
 abbrev μ-loop : tie.MeasureT-loop
-μ-loop owner key realm provides count installed serving consumer link-key link-realm provider live size first next end i₀ i = end - i
+μ-loop linked owner key realm provides count installed serving met₀ links size first next end seen₀ i₀ met seen i = end - i
 
-at-most-requires : tie.Need-at-most-requires Inv-loop μ-loop
+abbrev Inv-loop2 : tie.InvT-loop2
+Inv-loop2 linked owner key realm provides count installed serving met links size end i₀ rest₀ i rest =
+    let ok = linkOk (flag 64 installed) (flag 64 serving) (take count (declarationsOf 256 owner key realm provides)) in
+    (true ≡ all ok (take linked links) && ordered (take linked links))
+    × ((k : ℕ) → k < size → getD met k false ≡ any (meets (declarationAt owner key realm provides k)) (take linked links))
+    × (isBlankLink rest && all isBlankLink (drop i links) ≡ all isBlankLink (drop linked links))
+
+abbrev μ-loop2 : tie.MeasureT-loop2
+μ-loop2 linked owner key realm provides count installed serving met links size end i₀ rest₀ i rest = 512 - i
+
+at-most-requires : tie.Need-at-most-requires Inv-loop μ-loop Inv-loop2 μ-loop2
 at-most-requires c κs = search needs
 
-chain-declarations-requires : tie.Need-chain-declarations-requires Inv-loop μ-loop
+chain-declarations-requires :
+    tie.Need-chain-declarations-requires Inv-loop μ-loop Inv-loop2 μ-loop2
 chain-declarations-requires c κs = search needs
 
-at-most-requires-2 : tie.Need-at-most-requires-2 Inv-loop μ-loop
+at-most-requires-2 : tie.Need-at-most-requires-2 Inv-loop μ-loop Inv-loop2 μ-loop2
 at-most-requires-2 c κs = search needs
 
-loop-holds : tie.Need-loop-holds Inv-loop μ-loop
-unfolding declarationsOf linksOf
+loop-holds : tie.Need-loop-holds Inv-loop μ-loop Inv-loop2 μ-loop2
+unfolding any
 loop-holds c =
     let a = c .before .before .before .before .before .args in
-    let row = linkAt (a .consumer .now) (a .link-key .now) (a .link-realm .now) (a .provider .now) in
-    let installs = flag 64 (a .installed .now) in
-    let serves = flag 64 (a .serving .now) in
-    let ds = take (a .count) (declarationsOf 256 (a .owner .now) (a .key .now) (a .realm .now) (a .provides .now)) in
-    ap (all (linkOk installs serves ds)) (rows-most (a .live) 512 _ row (c .at-most2 .ensures))
+    let q = c .before .before .before .before .before .pre in
+    let ok = linkOk (flag 64 (a .installed .now)) (flag 64 (a .serving .now)) (take (a .count) (declarationsOf 256 (a .owner .now) (a .key .now) (a .realm .now) (a .provides .now))) in
+    let end = c .at-most2 in (
+      omega arith,
+      refl,
+      rw q refl,
+      rw (mark-none 64 (take (end .result) (a .t1))) (ap (λ (ls : List Link). all ok ls && ordered ls) (take-most (a .linked) 512 _ (a .t1) (omega arith) (end .ensures))),
+      λ k l. rw q (getD-replicate 256 k false false (omega (arith, c .before .before .before .before .at-most .ensures .within))),
+    )
 
-mul-c : tie.Need-mul-c Inv-loop μ-loop
-mul-c c = omega arith
+mul-l : tie.Need-mul-l Inv-loop μ-loop Inv-loop2 μ-loop2
+mul-l c = omega arith
 
-element-copy-out-c : tie.Need-element-copy-out-c Inv-loop μ-loop
-element-copy-out-c c = omega arith
+array-copy-out-l : tie.Need-array-copy-out-l Inv-loop μ-loop Inv-loop2 μ-loop2
+array-copy-out-l c = omega arith
 
-mul-p : tie.Need-mul-p Inv-loop μ-loop
-mul-p c = omega arith
+link-ok-requires : tie.Need-link-ok-requires Inv-loop μ-loop Inv-loop2 μ-loop2
+link-ok-requires c κs =
+    let j = c .before .before .before .before .before .before .loop in
+    (c .before .before .before .before .before .before .before .before .chain-declarations .ensures, j .inv .1, j .inv .2)
 
-element-copy-out-p : tie.Need-element-copy-out-p Inv-loop μ-loop
-element-copy-out-p c = omega arith
-
-mul-t28 : tie.Need-mul-t28 Inv-loop μ-loop
-mul-t28 c = omega arith
-
-element-copy-out-t36 : tie.Need-element-copy-out-t36 Inv-loop μ-loop
-element-copy-out-t36 c = omega arith
-
-mul-t31 : tie.Need-mul-t31 Inv-loop μ-loop
-mul-t31 c = omega arith
-
-element-copy-out-t39 : tie.Need-element-copy-out-t39 Inv-loop μ-loop
-element-copy-out-t39 c = omega arith
-
-flag-at-requires : tie.Need-flag-at-requires Inv-loop μ-loop
-flag-at-requires c κs = search needs
-
-flag-at-requires-2 : tie.Need-flag-at-requires-2 Inv-loop μ-loop
-flag-at-requires-2 c κs = search needs
-
-declared-requires : tie.Need-declared-requires Inv-loop μ-loop
-declared-requires c κs = c .before .before .before .before .before .before .before .before .before .before .before .chain-declarations .ensures
-
-declared-requires-2 : tie.Need-declared-requires-2 Inv-loop μ-loop
-declared-requires-2 c κs = c .before .before .before .before .before .before .before .before .before .before .before .before .before .before .chain-declarations .ensures
-
-returns : tie.Need-returns Inv-loop μ-loop
-unfolding linkOk declarationsOf linksOf
+returns : tie.Need-returns Inv-loop μ-loop Inv-loop2 μ-loop2
+unfolding declarationsOf
 returns c =
-    let s = c .before .before .before .before .before .before .before .before .before .before .before .before .before .before in
-    let a = s .before .before .before .before .before .before .args in
-    let row = linkAt (a .consumer .now) (a .link-key .now) (a .link-realm .now) (a .provider .now) in
-    let installs = flag 64 (a .installed .now) in
-    let serves = flag 64 (a .serving .now) in
-    let ds = take (a .count) (declarationsOf 256 (a .owner .now) (a .key .now) (a .realm .now) (a .provides .now)) in
-    let j = s .loop in
-    let same = rows-most (a .count) 256 _ (declarationAt (a .owner .now) (a .key .now) (a .realm .now) (a .provides .now)) (s .before .before .before .before .before .at-most .ensures) in
-    let l = row (j .i) in
-    let f : c .before .before .before .before .before .before .before .before .flag-at .result ≡ installs (l .consumer) = c .before .before .before .before .before .before .before .before .flag-at .ensures in
-    let g : c .before .before .before .before .before .before .before .flag-at2 .result ≡ serves (l .binding .provider) = c .before .before .before .before .before .before .before .flag-at2 .ensures in
-    let d : c .before .before .before .before .declared .result ≡ declares ds (l .consumer) (portOf (l .binding)) false = rw same at (c .before .before .before .before .declared .ensures) in
-    let e : c .before .declared2 .result ≡ declares ds (l .binding .provider) (portOf (l .binding)) true = rw same at (c .before .declared2 .ensures) in
-    let t : linkOk installs serves ds l ≡ false = not-true (conj (linkTests installs serves ds l)) (rw (f, g, d, e) at (c .if1 .taken)) in
-    all-hit (linkOk installs serves ds) _ _ _ _ (rows-next 512 (j .i) (s .before .at-most2 .result) row (c .before .before .before .before .before .before .before .before .before .before .before .before .before .loop-test .taken) (s .before .at-most2 .ensures .within)) (j .inv) t
+    let s = c .before .before .before .before .before .before .before in
+    let j = s .before .loop in
+    let a = s .before .before .before .before .before .before .before .args in
+    let row = declarationAt (a .owner .now) (a .key .now) (a .realm .now) (a .provides .now) in
+    let ok = linkOk (flag 64 (a .installed .now)) (flag 64 (a .serving .now)) (take (a .count) (declarationsOf 256 (a .owner .now) (a .key .now) (a .realm .now) (a .provides .now))) in
+    let end = s .before .before .at-most2 in
+    let same = rows-most (a .count) 256 _ row (s .before .before .before .before .before .before .at-most .ensures) in
+    let l = getD (a .t1) (j .i) blankLink in
+    let v = c .before .link-ok in
+    let bound : (ok l ≡ true → l .live ≡ true → l .binding .provider < length (j .seen)) = λ o t. rw (j .inv .1) (provider-below 64 (flag 64 (a .installed .now)) (a .serving .now) _ l o t) in
+    let part = part-next blankLink (j .i) (end .result) (a .t1) (s .loop-test .taken) (omega (arith, end .ensures .within, s .before .before .before .before .before .before .before .good)) in
+    let t : ok l && unmarked (marked (j .seen) l) l ≡ false = sym (rw same at (v .ensures .0)) ∙ not-true _ (c .if1 .taken) in
+    (rw (← (pass-hit ok (j .seen) l _ _ _ bound part (j .inv .3) t)), λ x. clash false x refl)
 
-add-i : tie.Need-add-i Inv-loop μ-loop
+add-i : tie.Need-add-i Inv-loop μ-loop Inv-loop2 μ-loop2
 add-i c = omega arith
 
-loop-less : tie.Need-loop-less Inv-loop μ-loop
+loop-less : tie.Need-loop-less Inv-loop μ-loop Inv-loop2 μ-loop2
 loop-less c = omega arith
 
-loop-again : tie.Need-loop-again Inv-loop μ-loop
-unfolding linkOk declarationsOf linksOf
+loop-again : tie.Need-loop-again Inv-loop μ-loop Inv-loop2 μ-loop2
+unfolding declarationsOf
 loop-again c =
-    let s = c .before .before .before .before .before .before .before .before .before .before .before .before .before .before in
-    let a = s .before .before .before .before .before .before .args in
-    let row = linkAt (a .consumer .now) (a .link-key .now) (a .link-realm .now) (a .provider .now) in
-    let installs = flag 64 (a .installed .now) in
-    let serves = flag 64 (a .serving .now) in
-    let ds = take (a .count) (declarationsOf 256 (a .owner .now) (a .key .now) (a .realm .now) (a .provides .now)) in
-    let j = s .loop in
-    let same = rows-most (a .count) 256 _ (declarationAt (a .owner .now) (a .key .now) (a .realm .now) (a .provides .now)) (s .before .before .before .before .before .at-most .ensures) in
-    let l = row (j .i) in
-    let f : c .before .before .before .before .before .before .before .before .flag-at .result ≡ installs (l .consumer) = c .before .before .before .before .before .before .before .before .flag-at .ensures in
-    let g : c .before .before .before .before .before .before .before .flag-at2 .result ≡ serves (l .binding .provider) = c .before .before .before .before .before .before .before .flag-at2 .ensures in
-    let d : c .before .before .before .before .declared .result ≡ declares ds (l .consumer) (portOf (l .binding)) false = rw same at (c .before .before .before .before .declared .ensures) in
-    let e : c .before .declared2 .result ≡ declares ds (l .binding .provider) (portOf (l .binding)) true = rw same at (c .before .declared2 .ensures) in
-    let t : linkOk installs serves ds l ≡ true = not-false (conj (linkTests installs serves ds l)) (rw (f, g, d, e) at (c .if1 .left)) in
-    all-next (linkOk installs serves ds) _ _ _ _ (rows-next 512 (j .i) (s .before .at-most2 .result) row (c .before .before .before .before .before .before .before .before .before .before .before .before .before .loop-test .taken) (s .before .at-most2 .ensures .within)) (j .inv) t
+    let s = c .before .before .before .before .before .before .before in
+    let j = s .before .loop in
+    let a = s .before .before .before .before .before .before .before .args in
+    let row = declarationAt (a .owner .now) (a .key .now) (a .realm .now) (a .provides .now) in
+    let ok = linkOk (flag 64 (a .installed .now)) (flag 64 (a .serving .now)) (take (a .count) (declarationsOf 256 (a .owner .now) (a .key .now) (a .realm .now) (a .provides .now))) in
+    let end = s .before .before .at-most2 in
+    let same = rows-most (a .count) 256 _ row (s .before .before .before .before .before .before .at-most .ensures) in
+    let l = getD (a .t1) (j .i) blankLink in
+    let v = c .before .link-ok in
+    let bound : (ok l ≡ true → l .live ≡ true → l .binding .provider < length (j .seen)) = λ o t. rw (j .inv .1) (provider-below 64 (flag 64 (a .installed .now)) (a .serving .now) _ l o t) in
+    let part = part-next blankLink (j .i) (end .result) (a .t1) (s .loop-test .taken) (omega (arith, end .ensures .within, s .before .before .before .before .before .before .before .good)) in
+    let r : v .result ≡ true = not-false _ (c .if1 .left) in
+    let t : ok l && unmarked (marked (j .seen) l) l ≡ true = sym (rw same at (v .ensures .0)) ∙ r in
+    let q = v .ensures .1 r in (
+      omega arith,
+      q .1,
+      q .2,
+      rw (q .0) (pass-next ok (j .seen) l _ _ _ bound part (j .inv .3) t),
+      λ k m. q .3 k m ∙ ap (λ (b : Bool). meets (row k) l || b) (j .inv .4 k m) ∙ sym (rw (add-one (j .i)) (any-more (meets (row k)) (a .t1) (j .i) blankLink (omega (arith, end .ensures .within, s .before .before .before .before .before .before .before .good)))),
+    )
 
-returns-2 : tie.Need-returns-2 Inv-loop μ-loop
-unfolding declarationsOf linksOf
+blank-link-requires : tie.Need-blank-link-requires Inv-loop μ-loop Inv-loop2 μ-loop2
+blank-link-requires c κs = search needs
+
+loop2-holds : tie.Need-loop2-holds Inv-loop μ-loop Inv-loop2 μ-loop2
+loop2-holds c =
+    let s = c .before .before in
+    let j = s .loop in
+    let a = s .before .before .before .before .before .before .args in
+    let end = s .before .at-most2 in
+    let ok = linkOk (flag 64 (a .installed .now)) (flag 64 (a .serving .now)) (take (a .count) (declarationsOf 256 (a .owner .now) (a .key .now) (a .realm .now) (a .provides .now))) in
+    let e : j .i ≡ end .result = omega arith in
+    let len : length (a .t1) ≡ 512 = omega (arith, s .before .before .before .before .before .before .good) in
+    let most = take-most (a .linked) 512 _ (a .t1) len (end .ensures) in (
+      pass-done ok (j .seen) _ _ (part-done (j .i) (end .result) (a .t1) (omega arith)) (j .inv .3),
+      λ k l. j .inv .4 k l ∙ ap (any (meets (declarationAt (a .owner .now) (a .key .now) (a .realm .now) (a .provides .now) k))) (rw e most),
+      rw (c .blank-link .ensures, e) (ap (all isBlankLink) (drop-most (a .linked) 512 _ (a .t1) len (end .ensures))),
+    )
+
+mul-l-2 : tie.Need-mul-l-2 Inv-loop μ-loop Inv-loop2 μ-loop2
+mul-l-2 c = omega arith
+
+array-copy-out-l-2 : tie.Need-array-copy-out-l-2 Inv-loop μ-loop Inv-loop2 μ-loop2
+array-copy-out-l-2 c = omega arith
+
+either-link-requires : tie.Need-either-link-requires Inv-loop μ-loop Inv-loop2 μ-loop2
+either-link-requires c κs = search needs
+
+add-i-2 : tie.Need-add-i-2 Inv-loop μ-loop Inv-loop2 μ-loop2
+add-i-2 c = omega arith
+
+loop2-less : tie.Need-loop2-less Inv-loop μ-loop Inv-loop2 μ-loop2
+loop2-less c = omega arith
+
+loop2-again : tie.Need-loop2-again Inv-loop μ-loop Inv-loop2 μ-loop2
+loop2-again c =
+    let j = c .before .before .before .loop2 in
+    let s = c .before .before .before .before .before .before .before .before .before .before .before .before in
+    (j .inv .0, j .inv .1, all-join isBlankLink _ _ _ (j .rest) (c .either-link .result) _ (rest-next blankLink (j .i) (s .args .t1) (omega (arith, s .good))) (j .inv .2) (c .either-link .ensures))
+
+is-blank-link-requires : tie.Need-is-blank-link-requires Inv-loop μ-loop Inv-loop2 μ-loop2
+is-blank-link-requires c κs = search needs
+
+returns-2 : tie.Need-returns-2 Inv-loop μ-loop Inv-loop2 μ-loop2
 returns-2 c =
-    let a = c .before .before .before .before .before .before .before .args in
-    let row = linkAt (a .consumer .now) (a .link-key .now) (a .link-realm .now) (a .provider .now) in
-    let installs = flag 64 (a .installed .now) in
-    let serves = flag 64 (a .serving .now) in
-    let ds = take (a .count) (declarationsOf 256 (a .owner .now) (a .key .now) (a .realm .now) (a .provides .now)) in
-    all-done (linkOk installs serves ds) _ _ (part-done (c .before .loop .i) (c .before .before .at-most2 .result) (rowsFrom 0 512 row) (c .loop-test .left)) (c .before .loop .inv)
+    let j = c .before .before .loop2 in
+    let s = c .before .before .before .before .before .before .before .before .before .before in
+    let a = s .before .args in (
+      rw (← (j .inv .0)) (c .is-blank-link .ensures ∙ join-done isBlankLink _ (j .rest) _ (rest-done (j .i) (a .t1) (omega (arith, s .before .good))) (j .inv .2)),
+      λ x k l m. j .inv .1 k (below-most (a .count) 256 _ k (s .at-most .ensures) l m),
+    )
 
 pub links-ok-spec : {M : Type 1} → statement M
 links-ok-spec =
@@ -140,24 +184,26 @@ links-ok-spec =
     (tie.spec
     Inv-loop
     μ-loop
+    Inv-loop2
+    μ-loop2
     at-most-requires
     chain-declarations-requires
     at-most-requires-2
     loop-holds
-    mul-c
-    element-copy-out-c
-    mul-p
-    element-copy-out-p
-    mul-t28
-    element-copy-out-t36
-    mul-t31
-    element-copy-out-t39
-    flag-at-requires
-    flag-at-requires-2
-    declared-requires
-    declared-requires-2
+    mul-l
+    array-copy-out-l
+    link-ok-requires
     returns
     add-i
     loop-less
     loop-again
+    blank-link-requires
+    loop2-holds
+    mul-l-2
+    array-copy-out-l-2
+    either-link-requires
+    add-i-2
+    loop2-less
+    loop2-again
+    is-blank-link-requires
     returns-2)

@@ -12,7 +12,7 @@ use Rattle.model.specs.Lists.{all}
 use Rattle.model.specs.Soundness.{sameOwner}
 use Rattle.scans.proofs.Laws.Columns.{rows-most, rows-next}
 use Rattle.scans.proofs.Laws.Scan.{all-done, all-hit, all-next, part-done}
-use Rattle.scans.specs.Columns.{declarationAt, declarationsOf, flag, linksOf, rowsFrom}
+use Rattle.scans.specs.Columns.{declarationAt, declarationsOf, flag, rowsFrom}
 use Rattle.scans.proofs.points.one_owner.Statement.{statement}
 use Rattle.scans.proofs.points.one_owner.Tie as tie
 
@@ -32,7 +32,7 @@ chain-ports-requires : tie.Need-chain-ports-requires Inv-loop μ-loop
 chain-ports-requires c κs = search needs
 
 loop-holds : tie.Need-loop-holds Inv-loop μ-loop
-unfolding declarationsOf linksOf
+unfolding declarationsOf
 loop-holds c =
     let a = c .before .before .before .before .args in
     let row = declarationAt (a .owner .now) (a .key .now) (a .realm .now) (a .provides .now) in
@@ -64,7 +64,7 @@ one-provider-requires : tie.Need-one-provider-requires Inv-loop μ-loop
 one-provider-requires c κs = c .before .before .before .before .before .before .before .before .chain-ports .ensures
 
 returns : tie.Need-returns Inv-loop μ-loop
-unfolding declarationsOf linksOf
+unfolding declarationsOf
 returns c =
     let s = c .before .before .before .before .before .before .before .before .before in
     let a = s .before .before .before .before .before .args in
@@ -82,7 +82,7 @@ loop-less : tie.Need-loop-less Inv-loop μ-loop
 loop-less c = omega arith
 
 loop-again : tie.Need-loop-again Inv-loop μ-loop
-unfolding declarationsOf linksOf
+unfolding declarationsOf
 loop-again c =
     let s = c .before .before .before .before .before .before .before .before .before in
     let a = s .before .before .before .before .before .args in
@@ -94,7 +94,7 @@ loop-again c =
     all-next alone _ _ _ _ (rows-next 256 (j .i) (s .before .before .before .before .at-most .result) row (omega arith) (omega arith)) (j .inv) (not-false (alone (row (j .i))) (rw f at (c .if1 .left)))
 
 returns-2 : tie.Need-returns-2 Inv-loop μ-loop
-unfolding declarationsOf linksOf
+unfolding declarationsOf
 returns-2 c =
     let a = c .before .before .before .before .before .before .args in
     let row = declarationAt (a .owner .now) (a .key .now) (a .realm .now) (a .provides .now) in

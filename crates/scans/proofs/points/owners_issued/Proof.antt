@@ -12,7 +12,7 @@ use Rattle.model.specs.Lists.{all}
 use Rattle.model.specs.Soundness.{hasOwner}
 use Rattle.scans.proofs.Laws.Columns.{rows-most, rows-next}
 use Rattle.scans.proofs.Laws.Scan.{all-done, all-hit, all-next, part-done}
-use Rattle.scans.specs.Columns.{declarationAt, declarationsOf, linksOf}
+use Rattle.scans.specs.Columns.{declarationAt, declarationsOf}
 use Rattle.scans.proofs.points.owners_issued.Statement.{statement}
 use Rattle.scans.proofs.points.owners_issued.Tie as tie
 
@@ -26,7 +26,7 @@ at-most-requires : tie.Need-at-most-requires Inv-loop μ-loop
 at-most-requires c κs = search needs
 
 loop-holds : tie.Need-loop-holds Inv-loop μ-loop
-unfolding declarationsOf linksOf
+unfolding declarationsOf
 loop-holds c =
     let a = c .before .args in
     λ key realm provides. ap (all (hasOwner (a .issued))) (rows-most (a .count) 256 _ (declarationAt (a .owner .now) key realm provides) (c .at-most .ensures))
@@ -38,7 +38,7 @@ element-copy-out-if1 : tie.Need-element-copy-out-if1 Inv-loop μ-loop
 element-copy-out-if1 c = omega arith
 
 returns : tie.Need-returns Inv-loop μ-loop
-unfolding hasOwner declarationsOf linksOf
+unfolding hasOwner declarationsOf
 returns c =
     let a = c .before .before .before .before .before .args in
     let j = c .before .before .before .loop in
@@ -51,7 +51,7 @@ loop-less : tie.Need-loop-less Inv-loop μ-loop
 loop-less c = omega arith
 
 loop-again : tie.Need-loop-again Inv-loop μ-loop
-unfolding hasOwner declarationsOf linksOf
+unfolding hasOwner declarationsOf
 loop-again c =
     let a = c .before .before .before .before .before .args in
     let j = c .before .before .before .loop in

@@ -12,7 +12,7 @@ use Rattle.model.specs.Resolution.{offers, resolve}
 use Rattle.scans.proofs.Laws.Columns.{rows-most, rows-next}
 use Rattle.scans.proofs.Laws.Resolving.{resolve-done, resolve-hit, resolve-next}
 use Rattle.scans.proofs.Laws.Scan.{part-done}
-use Rattle.scans.specs.Columns.{declarationAt, declarationsOf, flag, linksOf}
+use Rattle.scans.specs.Columns.{declarationAt, declarationsOf, flag}
 use Rattle.scans.proofs.resolution.resolve_in.Statement.{statement}
 use Rattle.scans.proofs.resolution.resolve_in.Tie as tie
 
@@ -27,7 +27,7 @@ at-most-requires : tie.Need-at-most-requires Inv-loop μ-loop
 at-most-requires c κs = search needs
 
 loop-holds : tie.Need-loop-holds Inv-loop μ-loop
-unfolding declarationsOf linksOf
+unfolding declarationsOf
 loop-holds c =
     let a = c .before .args in
     ap (λ (ds : List Declaration). resolve (flag 64 (a .providing .now)) ds (a .port)) (rows-most (a .count) 256 _ (declarationAt (a .owner .now) (a .key .now) (a .realm .now) (a .provides .now)) (c .at-most .ensures))
@@ -57,7 +57,7 @@ element-copy-out-if1 : tie.Need-element-copy-out-if1 Inv-loop μ-loop
 element-copy-out-if1 c = omega arith
 
 returns : tie.Need-returns Inv-loop μ-loop
-unfolding offers declarationsOf linksOf
+unfolding offers declarationsOf
 returns c =
     let a = c .before .before .before .before .before .before .before .before .before .before .before .args in
     let j = c .before .before .before .before .before .before .before .before .before .loop in
@@ -71,7 +71,7 @@ loop-less : tie.Need-loop-less Inv-loop μ-loop
 loop-less c = omega arith
 
 loop-again : tie.Need-loop-again Inv-loop μ-loop
-unfolding offers declarationsOf linksOf
+unfolding offers declarationsOf
 loop-again c =
     let a = c .before .before .before .before .before .before .before .before .before .before .before .args in
     let j = c .before .before .before .before .before .before .before .before .before .loop in

@@ -16,7 +16,7 @@ use Rattle.model.specs.Resolution.{bindPorts, dependencyPorts, isDependencyOf, 
 use Rattle.scans.proofs.Laws.Columns.{rows-most, rows-next}
 use Rattle.scans.proofs.Laws.Resolving.{after, after-nothing, bind-done, bind-none, bind-skip, bind-take, found, not-found}
 use Rattle.scans.proofs.Laws.Scan.{part-done}
-use Rattle.scans.specs.Columns.{declarationAt, declarationsOf, flag, linksOf}
+use Rattle.scans.specs.Columns.{declarationAt, declarationsOf, flag}
 use Rattle.scans.proofs.resolution.target_in.Statement.{statement}
 use Rattle.scans.proofs.resolution.target_in.Tie as tie
 
@@ -38,7 +38,7 @@ blank-binding-requires : tie.Need-blank-binding-requires Inv-loop μ-loop
 blank-binding-requires c κs = search needs
 
 loop-holds : tie.Need-loop-holds Inv-loop μ-loop
-unfolding padded declarationsOf linksOf
+unfolding padded declarationsOf
 loop-holds c =
     let a = c .before .before .args in
     ([], rw (c .blank-binding .ensures), refl, omega arith, rw (rows-most (a .count) 256 _ (declarationAt (a .owner .now) (a .key .now) (a .realm .now) (a .provides .now)) (c .before .at-most .ensures)) (after-nothing _))
@@ -74,7 +74,7 @@ enum-told : tie.Need-enum-told Inv-loop μ-loop
 enum-told c = search needs
 
 returns : tie.Need-returns Inv-loop μ-loop
-unfolding isDependencyOf padded declarationsOf linksOf
+unfolding isDependencyOf padded declarationsOf
 returns c =
     let a = c .before .before .before .before .before .before .before .before .before .before .before .before .args in
     let j = c .before .before .before .before .before .before .before .before .before .loop in
@@ -105,7 +105,7 @@ loop-less : tie.Need-loop-less Inv-loop μ-loop
 loop-less c = omega arith
 
 loop-again : tie.Need-loop-again Inv-loop μ-loop
-unfolding isDependencyOf declarationsOf linksOf
+unfolding isDependencyOf declarationsOf
 loop-again c =
     let a = c .before .before .before .before .before .before .before .args in
     let j = c .before .before .before .before .loop in
