@@ -3,6 +3,8 @@ pub mod Sized
 pub mod Entry
 pub mod Observed
 pub mod Commanded
+pub mod Checked
+pub mod Ready
 pub mod Stored
 pub mod Target
 pub mod Iteration

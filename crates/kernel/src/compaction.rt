@@ -12,24 +12,23 @@ impl Kernel {
     pub fn compact_bindings(mut self) -> CompactionOutcome
         ensures { λ r. ⌜ r ≡ compactionOutcome (command self Command.compactBindings) ⌝ }
     {
-        if !self.sound() {
-            return CompactionOutcome {
-                kernel: self,
-                answer: Answer::Refused(Error::Damaged),
-                removed: 0,
-            };
+        let mut answer = Answer::Refused(Error::Damaged);
+        let mut removed = 0;
+        if self.sound() {
+            let links = self.links;
+            let count = self.link_count;
+            let kept = edits::live_links(links, count);
+            let n = kept.count;
+            let live = kept.links;
+            self.links = live;
+            self.link_count = n;
+            answer = Answer::Done;
+            removed = count - n;
         }
-        let links = self.links;
-        let count = self.link_count;
-        let kept = edits::live_links(links, count);
-        let n = kept.count;
-        let live = kept.links;
-        self.links = live;
-        self.link_count = n;
         CompactionOutcome {
             kernel: self,
-            answer: Answer::Done,
-            removed: count - n,
+            answer: answer,
+            removed: removed,
         }
     }
 
@@ -37,27 +36,26 @@ impl Kernel {
     pub fn compact_declarations(mut self) -> CompactionOutcome
         ensures { λ r. ⌜ r ≡ compactionOutcome (command self Command.compactDeclarations) ⌝ }
     {
-        if !self.sound() {
-            return CompactionOutcome {
-                kernel: self,
-                answer: Answer::Refused(Error::Damaged),
-                removed: 0,
-            };
+        let mut answer = Answer::Refused(Error::Damaged);
+        let mut removed = 0;
+        if self.sound() {
+            let nodes = self.nodes;
+            let declarations = self.declarations;
+            let count = self.declaration_count;
+            let flags = scans::node_flags(nodes);
+            let present = flags.present;
+            let kept = edits::owned_declarations(declarations, count, present);
+            let n = kept.count;
+            let owned = kept.declarations;
+            self.declarations = owned;
+            self.declaration_count = n;
+            answer = Answer::Done;
+            removed = count - n;
         }
-        let nodes = self.nodes;
-        let declarations = self.declarations;
-        let count = self.declaration_count;
-        let flags = scans::node_flags(nodes);
-        let present = flags.present;
-        let kept = edits::owned_declarations(declarations, count, present);
-        let n = kept.count;
-        let owned = kept.declarations;
-        self.declarations = owned;
-        self.declaration_count = n;
         CompactionOutcome {
             kernel: self,
-            answer: Answer::Done,
-            removed: count - n,
+            answer: answer,
+            removed: removed,
         }
     }
 }

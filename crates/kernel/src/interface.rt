@@ -1,7 +1,8 @@
 // Interface commands.
 ghost use mathlib.Core.Path.{_≡_};
-ghost use Rattle.kernel.specs.Outcomes.{command, outcome};
+ghost use Rattle.kernel.specs.Outcomes.{command, nodeAnswer, outcome};
 ghost use Rattle.model.specs.Commands.{Command};
+ghost use Rattle.model.specs.Interface.{declareNodeTests};
 use crate::Kernel;
 use crate::Outcome;
 use model::Answer;
@@ -14,157 +15,136 @@ impl Kernel {
     pub fn declare_provision(mut self, id: usize, port: Port) -> Outcome
         ensures { λ r. ⌜ r ≡ outcome (command self (Command.declareProvision id port)) ⌝ }
     {
+        let mut answer = self.check_declare(id);
+        if let Answer::Done = answer {
+            let nodes = self.nodes;
+            let mut declarations = self.declarations;
+            let count = self.declaration_count;
+            if !scans::declares_in(declarations, count, id, port, true) {
+                let flags = scans::node_flags(nodes);
+                let present = flags.present;
+                if scans::taken_in(declarations, count, present, port) {
+                    answer = Answer::Refused(Error::Conflict);
+                } else if 256 <= count {
+                    answer = Answer::Refused(Error::Capacity);
+                } else {
+                    declarations[count] = model::provision(id, port);
+                    self.declarations = declarations;
+                    self.declaration_count = count + 1;
+                }
+            }
+        }
+        Outcome {
+            kernel: self,
+            answer: answer,
+        }
+    }
+
+    // What declare_provision answers of the kernel and the component's node, before the declarations.
+    fn check_declare(self, id: usize) -> Answer
+        ensures { λ r. ⌜ r ≡ nodeAnswer self declareNodeTests id ⌝ }
+    {
         if !self.sound() {
-            return Outcome {
-                kernel: self,
-                answer: Answer::Refused(Error::Damaged),
-            };
+            return Answer::Refused(Error::Damaged);
         }
         if 64 <= id {
-            return Outcome {
-                kernel: self,
-                answer: Answer::Refused(Error::Unknown),
-            };
+            return Answer::Refused(Error::Unknown);
         }
         let nodes = self.nodes;
         let node = nodes[id];
-        let checked = model::checks::check_declare(node);
-        if let Answer::Refused(error) = checked {
-            return Outcome {
-                kernel: self,
-                answer: Answer::Refused(error),
-            };
-        }
-        let mut declarations = self.declarations;
-        let count = self.declaration_count;
-        if scans::declares_in(declarations, count, id, port, true) {
-            return Outcome {
-                kernel: self,
-                answer: Answer::Done,
-            };
-        }
-        let flags = scans::node_flags(nodes);
-        let present = flags.present;
-        if scans::taken_in(declarations, count, present, port) {
-            return Outcome {
-                kernel: self,
-                answer: Answer::Refused(Error::Conflict),
-            };
-        }
-        if 256 <= count {
-            return Outcome {
-                kernel: self,
-                answer: Answer::Refused(Error::Capacity),
-            };
-        }
-        declarations[count] = model::provision(id, port);
-        self.declarations = declarations;
-        self.declaration_count = count + 1;
-        Outcome {
-            kernel: self,
-            answer: Answer::Done,
-        }
+        model::checks::check_declare(node)
     }
 
     // release_provision: drops every provision of this owner and port.
     pub fn release_provision(mut self, id: usize, port: Port) -> Outcome
         ensures { λ r. ⌜ r ≡ outcome (command self (Command.releaseProvision id port)) ⌝ }
     {
+        let answer = self.check_release_provision(id, port);
+        if let Answer::Done = answer {
+            let declarations = self.declarations;
+            let count = self.declaration_count;
+            let kept = edits::released_declarations(declarations, count, id, port);
+            let rest = kept.declarations;
+            self.declarations = rest;
+            self.declaration_count = kept.count;
+        }
+        Outcome {
+            kernel: self,
+            answer: answer,
+        }
+    }
+
+    // What release_provision answers.
+    fn check_release_provision(self, id: usize, port: Port) -> Answer
+        ensures { λ r. ⌜ r ≡ (outcome (command self (Command.releaseProvision id port))) .answer ⌝ }
+    {
         if !self.sound() {
-            return Outcome {
-                kernel: self,
-                answer: Answer::Refused(Error::Damaged),
-            };
+            return Answer::Refused(Error::Damaged);
         }
         if 64 <= id {
-            return Outcome {
-                kernel: self,
-                answer: Answer::Refused(Error::Unknown),
-            };
+            return Answer::Refused(Error::Unknown);
         }
         let nodes = self.nodes;
         let node = nodes[id];
         if !node.present {
-            return Outcome {
-                kernel: self,
-                answer: Answer::Refused(Error::Unknown),
-            };
+            return Answer::Refused(Error::Unknown);
         }
         let links = self.links;
         let linked = self.link_count;
         if scans::relies_on(links, linked, id, port) {
-            return Outcome {
-                kernel: self,
-                answer: Answer::Refused(Error::Relied),
-            };
+            return Answer::Refused(Error::Relied);
         }
-        let declarations = self.declarations;
-        let count = self.declaration_count;
-        let kept = edits::released_declarations(declarations, count, id, port);
-        let rest = kept.declarations;
-        self.declarations = rest;
-        self.declaration_count = kept.count;
-        Outcome {
-            kernel: self,
-            answer: Answer::Done,
-        }
+        Answer::Done
     }
 
     // configure_pending_dependencies: replaces the dependencies of a component that has never begun.
     pub fn configure_pending_dependencies(mut self, id: usize, list: PortList) -> Outcome
         ensures { λ r. ⌜ r ≡ outcome (command self (Command.configurePendingDependencies id list)) ⌝ }
     {
+        let answer = self.check_configure_pending_dependencies(id, list);
+        if let Answer::Done = answer {
+            let declarations = self.declarations;
+            let count = self.declaration_count;
+            let kept = edits::configured_declarations(declarations, count, id);
+            let rest = kept.declarations;
+            let n = kept.count;
+            let all = edits::append_ports(rest, n, id, list, false);
+            self.declarations = all;
+            self.declaration_count = n + list.count;
+        }
+        Outcome {
+            kernel: self,
+            answer: answer,
+        }
+    }
+
+    // What configure_pending_dependencies answers.
+    fn check_configure_pending_dependencies(self, id: usize, list: PortList) -> Answer
+        ensures { λ r. ⌜ r ≡ (outcome (command self (Command.configurePendingDependencies id list))) .answer ⌝ }
+    {
         if !self.sound() {
-            return Outcome {
-                kernel: self,
-                answer: Answer::Refused(Error::Damaged),
-            };
+            return Answer::Refused(Error::Damaged);
         }
         let more = list.count;
         if 32 < more {
-            return Outcome {
-                kernel: self,
-                answer: Answer::Refused(Error::Capacity),
-            };
+            return Answer::Refused(Error::Capacity);
         }
         if 64 <= id {
-            return Outcome {
-                kernel: self,
-                answer: Answer::Refused(Error::Unknown),
-            };
+            return Answer::Refused(Error::Unknown);
         }
         let nodes = self.nodes;
         let node = nodes[id];
         let checked = model::checks::check_configure(node);
         if let Answer::Refused(error) = checked {
-            return Outcome {
-                kernel: self,
-                answer: Answer::Refused(error),
-            };
+            return Answer::Refused(error);
         }
-        let declarations = self.declarations;
         let count = self.declaration_count;
         if 256 < more + count {
-            return Outcome {
-                kernel: self,
-                answer: Answer::Refused(Error::Capacity),
-            };
+            return Answer::Refused(Error::Capacity);
         }
         if !scans::distinct_ports(list) {
-            return Outcome {
-                kernel: self,
-                answer: Answer::Refused(Error::Conflict),
-            };
+            return Answer::Refused(Error::Conflict);
         }
-        let kept = edits::configured_declarations(declarations, count, id);
-        let rest = kept.declarations;
-        let n = kept.count;
-        let all = edits::append_ports(rest, n, id, list, false);
-        self.declarations = all;
-        self.declaration_count = n + more;
-        Outcome {
-            kernel: self,
-            answer: Answer::Done,
-        }
+        Answer::Done
     }
 }

@@ -5,6 +5,7 @@ use model::InsertAnswer;
 use model::Link;
 use model::Node;
 
+mod cleanup;
 mod compaction;
 mod insertion;
 mod interface;

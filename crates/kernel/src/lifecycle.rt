@@ -101,41 +101,16 @@ impl Kernel {
     pub fn finish(mut self, id: usize) -> Outcome
         ensures { λ r. ⌜ r ≡ outcome (command self (Command.finish id)) ⌝ }
     {
-        if !self.sound() {
-            return Outcome {
-                kernel: self,
-                answer: Answer::Refused(Error::Damaged),
-            };
+        let answer = self.check_iteration(id);
+        if let Answer::Done = answer {
+            let mut nodes = self.nodes;
+            let node = nodes[id];
+            nodes[id] = model::with_phase(Phase::Active, node);
+            self.nodes = nodes;
         }
-        if 64 <= id {
-            return Outcome {
-                kernel: self,
-                answer: Answer::Refused(Error::Unknown),
-            };
-        }
-        let mut nodes = self.nodes;
-        let node = nodes[id];
-        let checked = model::checks::check_loading(node);
-        if let Answer::Refused(error) = checked {
-            return Outcome {
-                kernel: self,
-                answer: Answer::Refused(error),
-            };
-        }
-        let declarations = self.declarations;
-        let count = self.declaration_count;
-        let target = scans::target_table(nodes, declarations, count, id);
-        if node.retired | !target.there {
-            return Outcome {
-                kernel: self,
-                answer: Answer::Refused(Error::Changed),
-            };
-        }
-        nodes[id] = model::with_phase(Phase::Active, node);
-        self.nodes = nodes;
         Outcome {
             kernel: self,
-            answer: Answer::Done,
+            answer: answer,
         }
     }
 
@@ -143,231 +118,108 @@ impl Kernel {
     pub fn leave(mut self, id: usize) -> Outcome
         ensures { λ r. ⌜ r ≡ outcome (command self (Command.leave id)) ⌝ }
     {
-        if !self.sound() {
-            return Outcome {
-                kernel: self,
-                answer: Answer::Refused(Error::Damaged),
-            };
+        let answer = self.check_leave(id);
+        if let Answer::Done = answer {
+            let mut nodes = self.nodes;
+            let node = nodes[id];
+            nodes[id] = model::with_phase(Phase::Unloading, node);
+            self.nodes = nodes;
         }
-        if 64 <= id {
-            return Outcome {
-                kernel: self,
-                answer: Answer::Refused(Error::Unknown),
-            };
-        }
-        let mut nodes = self.nodes;
-        let node = nodes[id];
-        let checked = model::checks::check_running(node);
-        if let Answer::Refused(error) = checked {
-            return Outcome {
-                kernel: self,
-                answer: Answer::Refused(error),
-            };
-        }
-        nodes[id] = model::with_phase(Phase::Unloading, node);
-        self.nodes = nodes;
         Outcome {
             kernel: self,
-            answer: Answer::Done,
+            answer: answer,
         }
+    }
+
+    // What leave answers.
+    fn check_leave(self, id: usize) -> Answer
+        ensures { λ r. ⌜ r ≡ (outcome (command self (Command.leave id))) .answer ⌝ }
+    {
+        if !self.sound() {
+            return Answer::Refused(Error::Damaged);
+        }
+        if 64 <= id {
+            return Answer::Refused(Error::Unknown);
+        }
+        let nodes = self.nodes;
+        let node = nodes[id];
+        model::checks::check_running(node)
     }
 
     // leave_if_changed: a Loading or Active component that has no target becomes Unloading.
     pub fn leave_if_changed(mut self, id: usize) -> Outcome
         ensures { λ r. ⌜ r ≡ outcome (command self (Command.leaveIfChanged id)) ⌝ }
     {
+        let answer = self.check_leave_if_changed(id);
+        if let Answer::Done = answer {
+            let mut nodes = self.nodes;
+            let node = nodes[id];
+            nodes[id] = model::with_phase(Phase::Unloading, node);
+            self.nodes = nodes;
+        }
+        Outcome {
+            kernel: self,
+            answer: answer,
+        }
+    }
+
+    // What leave_if_changed answers.
+    fn check_leave_if_changed(self, id: usize) -> Answer
+        ensures { λ r. ⌜ r ≡ (outcome (command self (Command.leaveIfChanged id))) .answer ⌝ }
+    {
         if !self.sound() {
-            return Outcome {
-                kernel: self,
-                answer: Answer::Refused(Error::Damaged),
-            };
+            return Answer::Refused(Error::Damaged);
         }
         if 64 <= id {
-            return Outcome {
-                kernel: self,
-                answer: Answer::Refused(Error::Unknown),
-            };
+            return Answer::Refused(Error::Unknown);
         }
-        let mut nodes = self.nodes;
+        let nodes = self.nodes;
         let node = nodes[id];
         let checked = model::checks::check_running(node);
         if let Answer::Refused(error) = checked {
-            return Outcome {
-                kernel: self,
-                answer: Answer::Refused(error),
-            };
+            return Answer::Refused(error);
         }
         let declarations = self.declarations;
         let count = self.declaration_count;
         let target = scans::target_table(nodes, declarations, count, id);
         if !node.retired & target.there {
-            return Outcome {
-                kernel: self,
-                answer: Answer::Refused(Error::Changed),
-            };
+            return Answer::Refused(Error::Changed);
         }
-        nodes[id] = model::with_phase(Phase::Unloading, node);
-        self.nodes = nodes;
-        Outcome {
-            kernel: self,
-            answer: Answer::Done,
-        }
+        Answer::Done
     }
 
     // retire: in each phase, and twice.
     pub fn retire(mut self, id: usize) -> Outcome
         ensures { λ r. ⌜ r ≡ outcome (command self (Command.retire id)) ⌝ }
     {
+        let answer = self.check_retire(id);
+        if let Answer::Done = answer {
+            let mut nodes = self.nodes;
+            let node = nodes[id];
+            nodes[id] = model::retired_node(node);
+            self.nodes = nodes;
+        }
+        Outcome {
+            kernel: self,
+            answer: answer,
+        }
+    }
+
+    // What retire answers.
+    fn check_retire(self, id: usize) -> Answer
+        ensures { λ r. ⌜ r ≡ (outcome (command self (Command.retire id))) .answer ⌝ }
+    {
         if !self.sound() {
-            return Outcome {
-                kernel: self,
-                answer: Answer::Refused(Error::Damaged),
-            };
+            return Answer::Refused(Error::Damaged);
         }
         if 64 <= id {
-            return Outcome {
-                kernel: self,
-                answer: Answer::Refused(Error::Unknown),
-            };
+            return Answer::Refused(Error::Unknown);
         }
-        let mut nodes = self.nodes;
+        let nodes = self.nodes;
         let node = nodes[id];
         if !node.present {
-            return Outcome {
-                kernel: self,
-                answer: Answer::Refused(Error::Unknown),
-            };
+            return Answer::Refused(Error::Unknown);
         }
-        nodes[id] = model::retired_node(node);
-        self.nodes = nodes;
-        Outcome {
-            kernel: self,
-            answer: Answer::Done,
-        }
-    }
-
-    // begin_cleanup: an Unloading component that no live link has as provider starts restoring.
-    pub fn begin_cleanup(mut self, id: usize) -> Outcome
-        ensures { λ r. ⌜ r ≡ outcome (command self (Command.beginCleanup id)) ⌝ }
-    {
-        if !self.sound() {
-            return Outcome {
-                kernel: self,
-                answer: Answer::Refused(Error::Damaged),
-            };
-        }
-        if 64 <= id {
-            return Outcome {
-                kernel: self,
-                answer: Answer::Refused(Error::Unknown),
-            };
-        }
-        let mut nodes = self.nodes;
-        let node = nodes[id];
-        let checked = model::checks::check_unloading(node);
-        if let Answer::Refused(error) = checked {
-            return Outcome {
-                kernel: self,
-                answer: Answer::Refused(error),
-            };
-        }
-        let new = model::restoring_node(node);
-        let issued = self.node_count;
-        let links = self.links;
-        let linked = self.link_count;
-        let updated = scans::update_node(nodes, issued, links, linked, id, new);
-        if let Answer::Refused(error) = updated {
-            return Outcome {
-                kernel: self,
-                answer: Answer::Refused(error),
-            };
-        }
-        nodes[id] = new;
-        self.nodes = nodes;
-        Outcome {
-            kernel: self,
-            answer: Answer::Done,
-        }
-    }
-
-    // finish_cleanup: a restoring component becomes Inactive, and its links dead.
-    pub fn finish_cleanup(mut self, id: usize) -> Outcome
-        ensures { λ r. ⌜ r ≡ outcome (command self (Command.finishCleanup id)) ⌝ }
-    {
-        if !self.sound() {
-            return Outcome {
-                kernel: self,
-                answer: Answer::Refused(Error::Damaged),
-            };
-        }
-        if 64 <= id {
-            return Outcome {
-                kernel: self,
-                answer: Answer::Refused(Error::Unknown),
-            };
-        }
-        let mut nodes = self.nodes;
-        let node = nodes[id];
-        let checked = model::checks::check_restoring(node);
-        if let Answer::Refused(error) = checked {
-            return Outcome {
-                kernel: self,
-                answer: Answer::Refused(error),
-            };
-        }
-        let links = self.links;
-        let linked = self.link_count;
-        let dead = edits::dead_links(links, linked, id);
-        self.links = dead;
-        nodes[id] = model::restored_node(node);
-        self.nodes = nodes;
-        Outcome {
-            kernel: self,
-            answer: Answer::Done,
-        }
-    }
-
-    // remove: a retired and Inactive component without a present child is no longer present.
-    pub fn remove(mut self, id: usize) -> Outcome
-        ensures { λ r. ⌜ r ≡ outcome (command self (Command.remove id)) ⌝ }
-    {
-        if !self.sound() {
-            return Outcome {
-                kernel: self,
-                answer: Answer::Refused(Error::Damaged),
-            };
-        }
-        if 64 <= id {
-            return Outcome {
-                kernel: self,
-                answer: Answer::Refused(Error::Unknown),
-            };
-        }
-        let mut nodes = self.nodes;
-        let node = nodes[id];
-        let checked = model::checks::check_retired(node);
-        if let Answer::Refused(error) = checked {
-            return Outcome {
-                kernel: self,
-                answer: Answer::Refused(error),
-            };
-        }
-        let new = model::absent_node(node);
-        let issued = self.node_count;
-        let links = self.links;
-        let linked = self.link_count;
-        let updated = scans::update_node(nodes, issued, links, linked, id, new);
-        if let Answer::Refused(error) = updated {
-            return Outcome {
-                kernel: self,
-                answer: Answer::Refused(error),
-            };
-        }
-        nodes[id] = new;
-        self.nodes = nodes;
-        Outcome {
-            kernel: self,
-            answer: Answer::Done,
-        }
+        Answer::Done
     }
 }

@@ -69,8 +69,9 @@ fn issued(answer: InsertAnswer) -> u64 {
     }
 }
 
-// Plays on until the log ends, the answers are full, a byte outside 01 to 10 (11) or cut operands (12). A refused command
-// hands the kernel back unchanged, so it is not copied back.
+// Plays on until the log ends, the answers are full, a byte outside 01 to 10 (11) or cut operands (12). Each command has an arm
+// of its own, so that the compiler sees which parts of the kernel it hands back unchanged and copies only the others; insert and begin
+// change more than they keep, and hand an unchanged kernel back where they refuse.
 pub fn play(player: Player, log: &[u8], answers: &mut [u8]) -> Player {
     let mut kernel = player.kernel;
     let mut dependencies = player.dependencies;
@@ -121,41 +122,89 @@ pub fn play(player: Player, log: &[u8], answers: &mut [u8]) -> Player {
                 dependencies.count = 0;
                 provisions.count = 0;
             }
-            0x0C | 0x0D => {
-                let outcome = match byte {
-                    0x0C => kernel.compact_bindings(),
-                    _ => kernel.compact_declarations(),
-                };
+            0x0C => {
+                let outcome = kernel.compact_bindings();
+                kernel = outcome.kernel;
                 let compacted = outcome.answer;
                 answer = model::answer_number(compacted);
                 detail = outcome.removed as u64;
-                if answer == 0 {
-                    kernel = outcome.kernel;
-                }
             }
-            _ => {
-                let outcome = match byte {
-                    0x04 => kernel.begin(id),
-                    0x05 => kernel.finish(id),
-                    0x06 => kernel.leave(id),
-                    0x07 => kernel.leave_if_changed(id),
-                    0x08 => kernel.retire(id),
-                    0x09 => kernel.begin_cleanup(id),
-                    0x0A => kernel.finish_cleanup(id),
-                    0x0B => kernel.remove(id),
-                    0x0E => kernel.declare_provision(id, log::port_at(operands, 1)),
-                    0x0F => kernel.release_provision(id, log::port_at(operands, 1)),
-                    _ => kernel.configure_pending_dependencies(id, dependencies),
-                };
+            0x0D => {
+                let outcome = kernel.compact_declarations();
+                kernel = outcome.kernel;
+                let compacted = outcome.answer;
+                answer = model::answer_number(compacted);
+                detail = outcome.removed as u64;
+            }
+            0x04 => {
+                let outcome = kernel.begin(id);
                 let done = outcome.answer;
                 answer = model::answer_number(done);
                 if answer == 0 {
                     kernel = outcome.kernel;
                 }
-                if byte == 0x10 {
-                    dependencies.count = 0;
-                    provisions.count = 0;
-                }
+            }
+            0x05 => {
+                let outcome = kernel.finish(id);
+                kernel = outcome.kernel;
+                let done = outcome.answer;
+                answer = model::answer_number(done);
+            }
+            0x06 => {
+                let outcome = kernel.leave(id);
+                kernel = outcome.kernel;
+                let done = outcome.answer;
+                answer = model::answer_number(done);
+            }
+            0x07 => {
+                let outcome = kernel.leave_if_changed(id);
+                kernel = outcome.kernel;
+                let done = outcome.answer;
+                answer = model::answer_number(done);
+            }
+            0x08 => {
+                let outcome = kernel.retire(id);
+                kernel = outcome.kernel;
+                let done = outcome.answer;
+                answer = model::answer_number(done);
+            }
+            0x09 => {
+                let outcome = kernel.begin_cleanup(id);
+                kernel = outcome.kernel;
+                let done = outcome.answer;
+                answer = model::answer_number(done);
+            }
+            0x0A => {
+                let outcome = kernel.finish_cleanup(id);
+                kernel = outcome.kernel;
+                let done = outcome.answer;
+                answer = model::answer_number(done);
+            }
+            0x0B => {
+                let outcome = kernel.remove(id);
+                kernel = outcome.kernel;
+                let done = outcome.answer;
+                answer = model::answer_number(done);
+            }
+            0x0E => {
+                let outcome = kernel.declare_provision(id, log::port_at(operands, 1));
+                kernel = outcome.kernel;
+                let done = outcome.answer;
+                answer = model::answer_number(done);
+            }
+            0x0F => {
+                let outcome = kernel.release_provision(id, log::port_at(operands, 1));
+                kernel = outcome.kernel;
+                let done = outcome.answer;
+                answer = model::answer_number(done);
+            }
+            _ => {
+                let outcome = kernel.configure_pending_dependencies(id, dependencies);
+                kernel = outcome.kernel;
+                let done = outcome.answer;
+                answer = model::answer_number(done);
+                dependencies.count = 0;
+                provisions.count = 0;
             }
         }
         answers[answered] = answer;

@@ -2,7 +2,7 @@
 use mathlib.Core.Path.{_∙_, _≡_, ap, refl, sym}
 use mathlib.Core.Bool.{Bool, _&&_, false, true}
 use mathlib.Core.List.{List, map}
-use Prim.Native.Nat.{_≤_, ℕ}
+use Prim.Native.Nat.{_≤_}
 use native.Mathlib.Omega.{arith}
 use lib.Dec.{leb}
 use lib.ListN.{drop, length, take}
@@ -10,7 +10,6 @@ use lib.Seq.{length-take-le}
 use borrow.Author.Tests.{leb-true}
 use Rattle.kernel.specs.declared.Kernel.{Kernel}
 use Rattle.model.specs.declared.Declaration.{Declaration}
-use Rattle.model.specs.declared.Link.{Link}
 use Rattle.model.specs.declared.Node.{Node}
 use Rattle.kernel.specs.Fields.{isSound, layoutOf}
 use Rattle.model.proofs.Laws.Booleans.{and-i, and-l, and-r}
@@ -22,7 +21,7 @@ use Rattle.model.specs.Sizes.{controller}
 use Rattle.model.specs.Soundness.{coverage, hasOwner, isCovered, linkOk, nodeOk, ordered, sameOwner}
 use Rattle.model.specs.Tables.{Tables, installed, nodeAt, present, serving}
 use Rattle.scans.proofs.Laws.Flags.{flag-nodes}
-use Rattle.scans.specs.Columns.{declarationsOf, flag}
+use Rattle.scans.specs.Columns.{flag}
 
 module _ (k : Kernel) (z : Sized controller (layoutOf k)) where
   abbrev T : Tables

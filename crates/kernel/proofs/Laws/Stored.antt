@@ -28,10 +28,6 @@ use Rattle.model.specs.Tables.{present, withDeclarations, withLinks}
 -- ---- what is below a count is the table
 
 module _ (k : Kernel) where
-  pub nodes-below : take (k .«node_count») (k .nodes) ≡ (tablesOf (layoutOf k)) .nodes
-  unfolding tablesOf
-  nodes-below = refl
-
   pub declarations-below : take (k .«declaration_count») (k .declarations) ≡ (tablesOf (layoutOf k)) .declarations
   unfolding tablesOf
   declarations-below = refl

@@ -1,157 +1,95 @@
 -- `kernel::Kernel::configure_pending_dependencies` meets its contract.
-use mathlib.Core.Bool.{not}
-use mathlib.Core.Path.{_∙_, ap, sym}
-use Prim.Native.Nat.{_+_, _≤_}
+use mathlib.Core.Path.{_∙_, _≡_, ap, refl, sym}
+use mathlib.Core.Bool.{true}
+use Prim.Native.Nat.{_+_, _≤_, ℕ}
 use native.Mathlib.Omega.{arith}
 use lib.Dec.{ltb}
+use lib.ListN.{length}
 use borrow.Author.Needs.{needs}
-use borrow.Author.Tests.{le-ltb, lt-ltb}
+use borrow.Author.Tests.{ltb-false}
 use Rattle.kernel.specs.declared.Kernel.{Kernel}
 use Rattle.model.specs.declared.Answer.{Answer}
-use Rattle.model.specs.declared.Error.{Error}
-use Rattle.kernel.proofs.Laws.Commanded.{accepted-by, damaged, node-passed, node-past, node-refused, past-unknown, refused-by}
-use Rattle.kernel.proofs.Laws.Declared.{configured, declarations-fit, kept-fit, kept-padded, list-sized, sum-is}
+use Rattle.model.specs.declared.PortList.{PortList}
+use Rattle.kernel.proofs.Laws.Checked.{done-with, kept, went}
+use Rattle.kernel.proofs.Laws.Declared.{configured, kept-fit, kept-padded, list-sized, sum-is}
 use Rattle.kernel.proofs.Laws.Sized.{sized}
-use Rattle.kernel.specs.Outcomes.{outcome}
-use Rattle.model.proofs.Laws.Refusals.{skip, stop}
+use Rattle.kernel.specs.Fields.{isSound, layoutOf}
+use Rattle.kernel.specs.Outcomes.{command, outcome}
 use Rattle.model.specs.Commands.{Command}
-use Rattle.model.specs.Interface.{configureNodeTests}
+use Rattle.model.specs.Layouts.{Sized}
+use Rattle.model.specs.Sizes.{controller}
 use Rattle.kernel.proofs.Kernel.configure_pending_dependencies.Statement.{statement}
 use Rattle.kernel.proofs.Kernel.configure_pending_dependencies.Tie as tie
 
-sound-requires : tie.Need-sound-requires
-sound-requires c κs = search needs
+-- where it is Done the kernel is sound, the list within its limit, and there is room for it
+room : (k : Kernel) (z : Sized controller (layoutOf k)) (id : ℕ) (l : PortList) → length (l .ports) ≡ 32 → (a : Answer) → a ≡ (outcome (command k (Command.configurePendingDependencies id l))) .answer → a ≡ Answer.Done → (isSound k ≡ true) × (l .count ≤ 32) × (l .count + k .«declaration_count» ≤ 256)
+room k z id l g a e d =
+    let q = went k z (Command.configurePendingDependencies id l) a e d in
+    let h : l .count ≤ 32 = ltb-false 32 (l .count) (q .1 .0) in
+    (q .0, h, ltb-false 256 _ (ap (ltb 256) (sym (sum-is k z true (sym (q .0)) refl l g h)) ∙ q .1 .1 .1 .1 .1 .0))
 
-returns : tie.Need-returns
-returns c =
-    let a = c .before .before .args in
-    sym (ap outcome (damaged (a .self) (Command.configurePendingDependencies (a .id) (a .list)) (c .before .sound .result) (c .before .sound .ensures) (c .if1 .taken)))
-
-returns-2 : tie.Need-returns-2
-returns-2 c =
-    let s = c .before .before .before in
-    let k = s .args .self in
-    let z = sized k (s .good .0, tt) in
-    let v = c .before .before .sound in
-    let t = c .before .if1 .left in
-    sym (ap outcome (refused-by k z (v .result) (v .ensures) t (Command.configurePendingDependencies (s .args .id) (s .args .list)) Error.Capacity (stop _ _ _ (lt-ltb 32 ((s .args .list) .count) (c .if2 .taken)))))
-
-returns-3 : tie.Need-returns-3
-returns-3 c =
-    let s = c .before .before .before .before in
-    let k = s .args .self in
-    let z = sized k (s .good .0, tt) in
-    let v = c .before .before .before .sound in
-    let t = c .before .before .if1 .left in
-    sym (ap outcome (refused-by k z (v .result) (v .ensures) t (Command.configurePendingDependencies (s .args .id) (s .args .list)) Error.Unknown (skip _ _ _ (le-ltb 32 ((s .args .list) .count) (c .before .if2 .left)) ∙ past-unknown k z (v .result) (v .ensures) t (s .args .id) _ (c .if3 .taken))))
-
-mul-node : tie.Need-mul-node
-mul-node c = search needs
-
-array-copy-out-node : tie.Need-array-copy-out-node
-array-copy-out-node c = search needs
-
-check-configure-requires : tie.Need-check-configure-requires
-check-configure-requires c κs = search needs
-
-enum-known-checked : tie.Need-enum-known-checked
-enum-known-checked c = search needs
-
-returns-4 : tie.Need-returns-4
-returns-4 c =
-    let s = c .before .before .before .before .before .before .before .before .before .before in
-    let k = s .args .self in
-    let z = sized k (s .good .0, tt) in
-    let v = c .before .before .before .before .before .before .before .before .before .sound in
-    let t = c .before .before .before .before .before .before .before .before .if1 .left in
-    sym (ap outcome (refused-by k z (v .result) (v .ensures) t (Command.configurePendingDependencies (s .args .id) (s .args .list)) _ (skip _ _ _ (le-ltb 32 ((s .args .list) .count) (c .before .before .before .before .before .before .before .if2 .left)) ∙ node-refused k z (v .result) (v .ensures) t (s .args .id) configureNodeTests _ _ _ (c .before .before .before .check-configure .ensures) (c .before .checked .given .1))))
+check-configure-pending-dependencies-requires :
+    tie.Need-check-configure-pending-dependencies-requires
+check-configure-pending-dependencies-requires c κs = search needs
 
 enum-told : tie.Need-enum-told
 enum-told c = search needs
-
-add-if4 : tie.Need-add-if4
-add-if4 c =
-    let s = c .before .before .before .before .before .before .before .before .before .before in
-    let k = s .args .self in
-    let z = sized k (s .good .0, tt) in
-    let v = c .before .before .before .before .before .before .before .before .before .sound in
-    let t = c .before .before .before .before .before .before .before .before .if1 .left in
-    let fit : k .«declaration_count» ≤ 256 = declarations-fit k z (v .result) (v .ensures) t in
-    let few : (s .args .list) .count ≤ 32 = c .before .before .before .before .before .before .before .if2 .left in
-    omega arith
-
-returns-5 : tie.Need-returns-5
-returns-5 c =
-    let s = c .before .before .before .before .before .before .before .before .before .before .before in
-    let k = s .args .self in
-    let z = sized k (s .good .0, tt) in
-    let v = c .before .before .before .before .before .before .before .before .before .before .sound in
-    let t = c .before .before .before .before .before .before .before .before .before .if1 .left in
-    sym (ap outcome (refused-by k z (v .result) (v .ensures) t (Command.configurePendingDependencies (s .args .id) (s .args .list)) Error.Capacity (skip _ _ _ (le-ltb 32 ((s .args .list) .count) (c .before .before .before .before .before .before .before .before .if2 .left)) ∙ node-past k z (v .result) (v .ensures) t (s .args .id) configureNodeTests _ _ (c .before .before .before .before .check-configure .ensures) (c .before .before .enum-told .given .1) ∙ stop _ _ _ (ap (ltb 256) (sum-is k z (v .result) (v .ensures) t (s .args .list) (list-sized (s .args .list) (s .good .1 .1 .0, tt)) (c .before .before .before .before .before .before .before .before .if2 .left)) ∙ lt-ltb _ _ (c .if4 .taken)))))
-
-distinct-ports-requires : tie.Need-distinct-ports-requires
-distinct-ports-requires c κs = search needs
-
-returns-6 : tie.Need-returns-6
-returns-6 c =
-    let s = c .before .before .before .before .before .before .before .before .before .before .before .before .before in
-    let k = s .args .self in
-    let z = sized k (s .good .0, tt) in
-    let v = c .before .before .before .before .before .before .before .before .before .before .before .before .sound in
-    let t = c .before .before .before .before .before .before .before .before .before .before .before .if1 .left in
-    sym (ap outcome (refused-by k z (v .result) (v .ensures) t (Command.configurePendingDependencies (s .args .id) (s .args .list)) Error.Conflict (skip _ _ _ (le-ltb 32 ((s .args .list) .count) (c .before .before .before .before .before .before .before .before .before .before .if2 .left)) ∙ node-past k z (v .result) (v .ensures) t (s .args .id) configureNodeTests _ _ (c .before .before .before .before .before .before .check-configure .ensures) (c .before .before .before .before .enum-told .given .1) ∙ skip _ _ _ (ap (ltb 256) (sum-is k z (v .result) (v .ensures) t (s .args .list) (list-sized (s .args .list) (s .good .1 .1 .0, tt)) (c .before .before .before .before .before .before .before .before .before .before .if2 .left)) ∙ le-ltb _ _ (c .before .before .if4 .left)) ∙ stop _ _ _ (ap not (sym (c .before .distinct-ports .ensures)) ∙ c .if5 .taken))))
 
 configured-declarations-requires : tie.Need-configured-declarations-requires
 configured-declarations-requires c κs = search needs
 
 append-ports-requires : tie.Need-append-ports-requires
 append-ports-requires c κs =
-    let s = c .before .before .before .before .before .before .before .before .before .before .before .before .before .before .before in
+    let s = c .before .before .before .before .before .before in
     let k = s .args .self in
     let z = sized k (s .good .0, tt) in
-    let v = c .before .before .before .before .before .before .before .before .before .before .before .before .before .before .sound in
-    let t = c .before .before .before .before .before .before .before .before .before .before .before .before .before .if1 .left in
-    (c .before .before .before .before .before .before .before .before .before .before .before .before .if2 .left, kept-fit k z (v .result) (v .ensures) t (s .args .id) ((s .args .list) .count) (c .before .configured-declarations .result) (c .before .configured-declarations .ensures) (c .before .before .before .before .if4 .left), kept-padded _ (c .before .configured-declarations .result) (c .before .configured-declarations .ensures))
+    let a = c .before .before .before .before .before .check-configure-pending-dependencies in
+    let r = c .before .configured-declarations in
+    let q = room k z (s .args .id) (s .args .list) (list-sized (s .args .list) (s .good .1 .1 .0, tt)) (a .result) (a .ensures) (c .before .before .before .enum-told .given .1) in
+    (q .1, kept-fit k z true (sym (q .0)) refl (s .args .id) ((s .args .list) .count) (r .result) (r .ensures) (q .2), kept-padded _ (r .result) (r .ensures))
 
 add-self : tie.Need-add-self
 add-self c =
-    let s = c .before .before .before .before .before .before .before .before .before .before .before .before .before .before .before .before in
+    let s = c .before .before .before .before .before .before .before .before in
     let k = s .args .self in
     let z = sized k (s .good .0, tt) in
-    let v = c .before .before .before .before .before .before .before .before .before .before .before .before .before .before .before .sound in
-    let t = c .before .before .before .before .before .before .before .before .before .before .before .before .before .before .if1 .left in
-    let fit : c .before .before .configured-declarations .result .count + (s .args .list) .count ≤ 256 = kept-fit k z (v .result) (v .ensures) t (s .args .id) ((s .args .list) .count) (c .before .before .configured-declarations .result) (c .before .before .configured-declarations .ensures) (c .before .before .before .before .before .if4 .left) in
+    let a = c .before .before .before .before .before .before .before .check-configure-pending-dependencies in
+    let r = c .before .before .before .configured-declarations in
+    let q = room k z (s .args .id) (s .args .list) (list-sized (s .args .list) (s .good .1 .1 .0, tt)) (a .result) (a .ensures) (c .before .before .before .before .before .enum-told .given .1) in
+    let fit : r .result .count + (s .args .list) .count ≤ 256 = kept-fit k z true (sym (q .0)) refl (s .args .id) ((s .args .list) .count) (r .result) (r .ensures) (q .2) in
     omega arith
 
-returns-7 : tie.Need-returns-7
-returns-7 c =
-    let s = c .before .before .before .before .before .before .before .before .before .before .before .before .before .before .before .before in
+enum-told-2 : tie.Need-enum-told-2
+enum-told-2 c = search needs
+
+returns : tie.Need-returns
+returns c =
+    let s = c .before .before .before .before .before .before .before .before in
     let k = s .args .self in
     let z = sized k (s .good .0, tt) in
-    let v = c .before .before .before .before .before .before .before .before .before .before .before .before .before .before .before .sound in
-    let t = c .before .before .before .before .before .before .before .before .before .before .before .before .before .before .if1 .left in
-    let p = node-passed k z (v .result) (v .ensures) t (s .args .id) configureNodeTests _ (c .before .before .before .before .before .before .before .before .before .check-configure .ensures) (c .before .before .before .before .before .before .before .enum-told .given .1) in
-    sym (ap outcome (accepted-by k z (v .result) (v .ensures) t (Command.configurePendingDependencies (s .args .id) (s .args .list)) (le-ltb 32 ((s .args .list) .count) (c .before .before .before .before .before .before .before .before .before .before .before .before .before .if2 .left), (p .0, (p .1 .0, (p .1 .1 .0, (ap (ltb 256) (sum-is k z (v .result) (v .ensures) t (s .args .list) (list-sized (s .args .list) (s .good .1 .1 .0, tt)) (c .before .before .before .before .before .before .before .before .before .before .before .before .before .if2 .left)) ∙ le-ltb _ _ (c .before .before .before .before .before .if4 .left), (ap not (sym (c .before .before .before .before .distinct-ports .ensures)) ∙ c .before .before .before .if5 .left, tt))))))) ∙ ap (λ (x : Kernel). record { kernel = x; answer = Answer.Done }) (configured k z (v .result) (v .ensures) t (s .args .id) (s .args .list) (c .before .before .configured-declarations .result) (c .append-ports .result) (list-sized (s .args .list) (s .good .1 .1 .0, tt)) (c .before .before .before .before .before .before .before .before .before .before .before .before .before .if2 .left) (c .before .before .configured-declarations .ensures) (c .append-ports .ensures)))
+    let a = c .before .before .before .before .before .before .before .check-configure-pending-dependencies in
+    let d = c .before .before .before .before .before .enum-told .given .1 in
+    let r = c .before .before .before .configured-declarations in
+    let g = list-sized (s .args .list) (s .good .1 .1 .0, tt) in
+    let q = room k z (s .args .id) (s .args .list) g (a .result) (a .ensures) d in
+    done-with k z (Command.configurePendingDependencies (s .args .id) (s .args .list)) (a .result) (a .ensures) d _ (configured k z true (sym (q .0)) refl (s .args .id) (s .args .list) (r .result) (c .before .append-ports .result) g (q .1) (r .ensures) (c .before .append-ports .ensures))
+
+returns-2 : tie.Need-returns-2
+returns-2 c =
+    let s = c .before .before .before in
+    let k = s .args .self in
+    let a = c .before .before .check-configure-pending-dependencies in
+    kept k (sized k (s .good .0, tt)) (Command.configurePendingDependencies (s .args .id) (s .args .list)) (a .result) (a .ensures) _ (c .enum-told2 .given .1)
 
 pub configure-pending-dependencies-spec : {M : Type 1} → statement M
 configure-pending-dependencies-spec =
     tie.close
     (tie.spec
-    sound-requires
-    returns
-    returns-2
-    returns-3
-    mul-node
-    array-copy-out-node
-    check-configure-requires
-    enum-known-checked
-    returns-4
+    check-configure-pending-dependencies-requires
     enum-told
-    add-if4
-    returns-5
-    distinct-ports-requires
-    returns-6
     configured-declarations-requires
     append-ports-requires
     add-self
-    returns-7)
+    enum-told-2
+    returns
+    returns-2)

@@ -1,61 +1,22 @@
 -- `kernel::Kernel::finish_cleanup` meets its contract.
 use mathlib.Core.Bool.{true}
-use mathlib.Core.Path.{_∙_, _≡_, ap, sym}
+use mathlib.Core.Path.{_∙_, _≡_, ap, refl, sym}
+use native.Mathlib.Omega.{arith}
 use borrow.Author.Needs.{needs}
-use Rattle.kernel.specs.declared.Kernel.{Kernel}
-use Rattle.model.specs.declared.Answer.{Answer}
-use Rattle.model.specs.declared.Error.{Error}
-use Rattle.kernel.proofs.Laws.Commanded.{accepted-by, damaged, node-is, node-passed, node-refused, past-unknown, refused-by}
+use Rattle.kernel.proofs.Laws.Checked.{done-below, done-present, done-with, kept, went}
+use Rattle.kernel.proofs.Laws.Commanded.{node-is}
 use Rattle.kernel.proofs.Laws.Sized.{sized}
 use Rattle.kernel.proofs.Laws.Stored.{node-and-links-changed}
-use Rattle.kernel.specs.Fields.{layoutOf}
-use Rattle.kernel.specs.Outcomes.{outcome}
-use Rattle.model.proofs.Laws.Booleans.{not-f}
+use Rattle.kernel.specs.Fields.{isSound, layoutOf}
 use Rattle.model.specs.Commands.{Command}
 use Rattle.model.specs.Layouts.{tablesOf}
-use Rattle.model.specs.Lifecycle.{restoringTests}
 use Rattle.model.specs.Records.{deadFor, restoredNode}
-use Rattle.model.specs.Tables.{nodeAt, present}
+use Rattle.model.specs.Tables.{nodeAt}
 use Rattle.kernel.proofs.Kernel.finish_cleanup.Statement.{statement}
 use Rattle.kernel.proofs.Kernel.finish_cleanup.Tie as tie
 
-sound-requires : tie.Need-sound-requires
-sound-requires c κs = search needs
-
-returns : tie.Need-returns
-returns c =
-    let a = c .before .before .args in
-    sym (ap outcome (damaged (a .self) (Command.finishCleanup (a .id)) (c .before .sound .result) (c .before .sound .ensures) (c .if1 .taken)))
-
-returns-2 : tie.Need-returns-2
-returns-2 c =
-    let s = c .before .before .before in
-    let k = s .args .self in
-    let z = sized k (s .good .0, tt) in
-    let v = c .before .before .sound in
-    let t = c .before .if1 .left in
-    sym (ap outcome (refused-by k z (v .result) (v .ensures) t (Command.finishCleanup (s .args .id)) Error.Unknown (past-unknown k z (v .result) (v .ensures) t (s .args .id) _ (c .if2 .taken))))
-
-mul-node : tie.Need-mul-node
-mul-node c = search needs
-
-array-copy-out-node : tie.Need-array-copy-out-node
-array-copy-out-node c = search needs
-
-check-restoring-requires : tie.Need-check-restoring-requires
-check-restoring-requires c κs = search needs
-
-enum-known-checked : tie.Need-enum-known-checked
-enum-known-checked c = search needs
-
-returns-3 : tie.Need-returns-3
-returns-3 c =
-    let s = c .before .before .before .before .before .before .before .before .before in
-    let k = s .args .self in
-    let z = sized k (s .good .0, tt) in
-    let v = c .before .before .before .before .before .before .before .before .sound in
-    let t = c .before .before .before .before .before .before .before .if1 .left in
-    sym (ap outcome (refused-by k z (v .result) (v .ensures) t (Command.finishCleanup (s .args .id)) _ (node-refused k z (v .result) (v .ensures) t (s .args .id) restoringTests _ _ _ (c .before .before .before .check-restoring .ensures) (c .before .checked .given .1))))
+check-finish-cleanup-requires : tie.Need-check-finish-cleanup-requires
+check-finish-cleanup-requires c κs = search needs
 
 enum-told : tie.Need-enum-told
 enum-told c = search needs
@@ -63,42 +24,60 @@ enum-told c = search needs
 dead-links-requires : tie.Need-dead-links-requires
 dead-links-requires c κs = search needs
 
+array-copy-out-node : tie.Need-array-copy-out-node
+array-copy-out-node c =
+    let s = c .before .before .before .before .before .before in
+    let k = s .args .self in
+    let z = sized k (s .good .0, tt) in
+    let a = c .before .before .before .before .before .check-finish-cleanup in
+    done-below k z (Command.finishCleanup (s .args .id)) (a .result) (a .ensures) (c .before .before .before .enum-told .given .1) (s .args .id) _ refl
+
+mul-node : tie.Need-mul-node
+mul-node c = omega (arith, array-copy-out-node c)
+
 restored-node-requires : tie.Need-restored-node-requires
 restored-node-requires c κs = search needs
 
-mul-nodes : tie.Need-mul-nodes
-mul-nodes c = search needs
-
 array-set-from-nodes : tie.Need-array-set-from-nodes
-array-set-from-nodes c = search needs
+array-set-from-nodes c = array-copy-out-node (c .before .before)
 
-returns-4 : tie.Need-returns-4
-returns-4 c =
-    let s = c .before .before .before .before .before .before .before .before .before .before .before in
+mul-nodes : tie.Need-mul-nodes
+mul-nodes c = omega (arith, array-set-from-nodes c)
+
+enum-told-2 : tie.Need-enum-told-2
+enum-told-2 c = search needs
+
+returns : tie.Need-returns
+returns c =
+    let s = c .before .before .before .before .before .before .before .before in
     let k = s .args .self in
     let z = sized k (s .good .0, tt) in
-    let v = c .before .before .before .before .before .before .before .before .before .before .sound in
-    let t = c .before .before .before .before .before .before .before .before .before .if1 .left in
-    let p = node-passed k z (v .result) (v .ensures) t (s .args .id) restoringTests _ (c .before .before .before .before .before .check-restoring .ensures) (c .before .before .before .enum-told .given .1) in
-    let h : present ((tablesOf (layoutOf k)) .nodes) (s .args .id) ≡ true = not-f _ (p .0) in
-    let r : c .restored-node .result ≡ restoredNode (nodeAt ((tablesOf (layoutOf k)) .nodes) (s .args .id)) = c .restored-node .ensures ∙ ap (restoredNode) (sym (node-is k z (v .result) (v .ensures) t (s .args .id))) in
-    sym (ap outcome (accepted-by k z (v .result) (v .ensures) t (Command.finishCleanup (s .args .id)) p) ∙ ap (λ (x : Kernel). record { kernel = x; answer = Answer.Done }) (node-and-links-changed k z (v .result) (v .ensures) t (s .args .id) _ (deadFor (s .args .id)) h ∙ rw (← r, ← c .before .dead-links .ensures)))
+    let a = c .before .before .before .before .before .before .before .check-finish-cleanup in
+    let d = c .before .before .before .before .before .enum-told .given .1 in
+    let y : isSound k ≡ true = (went k z (Command.finishCleanup (s .args .id)) (a .result) (a .ensures) d) .0 in
+    let r : c .restored-node .result ≡ restoredNode (nodeAt ((tablesOf (layoutOf k)) .nodes) (s .args .id)) = c .restored-node .ensures ∙ ap restoredNode (sym (node-is k z true (sym y) refl (s .args .id))) in
+    done-with k z (Command.finishCleanup (s .args .id)) (a .result) (a .ensures) d _ (node-and-links-changed k z true (sym y) refl (s .args .id) _ (deadFor (s .args .id)) (done-present k z (Command.finishCleanup (s .args .id)) (a .result) (a .ensures) d (s .args .id) _ refl) ∙ rw (← r, ← c .before .before .before .dead-links .ensures))
+
+returns-2 : tie.Need-returns-2
+returns-2 c =
+    let s = c .before .before .before in
+    let k = s .args .self in
+    let z = sized k (s .good .0, tt) in
+    let a = c .before .before .check-finish-cleanup in
+    kept k z (Command.finishCleanup (s .args .id)) (a .result) (a .ensures) _ (c .enum-told2 .given .1)
 
 pub finish-cleanup-spec : {M : Type 1} → statement M
 finish-cleanup-spec =
     tie.close
     (tie.spec
-    sound-requires
-    returns
-    returns-2
-    mul-node
-    array-copy-out-node
-    check-restoring-requires
-    enum-known-checked
-    returns-3
+    check-finish-cleanup-requires
     enum-told
     dead-links-requires
+    mul-node
+    array-copy-out-node
     restored-node-requires
     mul-nodes
     array-set-from-nodes
-    returns-4)
+    enum-told-2
+    returns
+    returns-2)

@@ -1,84 +1,70 @@
 -- `kernel::Kernel::retire` meets its contract.
-use mathlib.Core.Path.{_∙_, _≡_, ap, sym}
-use mathlib.Core.Bool.{true}
-use mathlib.Core.List.{[]}
+use mathlib.Core.Path.{refl}
+use native.Mathlib.Omega.{arith}
 use borrow.Author.Needs.{needs}
-use borrow.Author.Tests.{not-false}
-use Rattle.kernel.specs.declared.Kernel.{Kernel}
-use Rattle.model.specs.declared.Answer.{Answer}
-use Rattle.model.specs.declared.Error.{Error}
-use Rattle.kernel.proofs.Laws.Commanded.{absent-unknown, accepted-by, damaged, node-has, node-is, node-stored, past-unknown, refused-by}
+use Rattle.kernel.proofs.Laws.Checked.{done-below, kept, node-done}
 use Rattle.kernel.proofs.Laws.Sized.{sized}
-use Rattle.kernel.specs.Fields.{layoutOf}
-use Rattle.kernel.specs.Outcomes.{outcome}
 use Rattle.model.specs.Commands.{Command}
-use Rattle.model.specs.Layouts.{tablesOf}
 use Rattle.model.specs.Records.{retiredNode}
-use Rattle.model.specs.Tables.{nodeAt, present}
 use Rattle.kernel.proofs.Kernel.retire.Statement.{statement}
 use Rattle.kernel.proofs.Kernel.retire.Tie as tie
 
-sound-requires : tie.Need-sound-requires
-sound-requires c κs = search needs
+check-retire-requires : tie.Need-check-retire-requires
+check-retire-requires c κs = search needs
+
+enum-told : tie.Need-enum-told
+enum-told c = search needs
+
+array-copy-out-node : tie.Need-array-copy-out-node
+array-copy-out-node c =
+    let s = c .before .before .before .before in
+    let k = s .args .self in
+    let z = sized k (s .good .0, tt) in
+    let a = c .before .before .before .check-retire in
+    done-below k z (Command.retire (s .args .id)) (a .result) (a .ensures) (c .before .enum-told .given .1) (s .args .id) _ refl
+
+mul-node : tie.Need-mul-node
+mul-node c = omega (arith, array-copy-out-node c)
+
+retired-node-requires : tie.Need-retired-node-requires
+retired-node-requires c κs = search needs
+
+array-set-from-nodes : tie.Need-array-set-from-nodes
+array-set-from-nodes c = array-copy-out-node (c .before .before)
+
+mul-nodes : tie.Need-mul-nodes
+mul-nodes c = omega (arith, array-set-from-nodes c)
+
+enum-told-2 : tie.Need-enum-told-2
+enum-told-2 c = search needs
 
 returns : tie.Need-returns
-returns c = sym (ap outcome (damaged (c .before .before .args .self) (Command.retire (c .before .before .args .id)) (c .before .sound .result) (c .before .sound .ensures) (c .if1 .taken)))
+returns c =
+    let s = c .before .before .before .before .before .before in
+    let k = s .args .self in
+    let z = sized k (s .good .0, tt) in
+    let a = c .before .before .before .before .before .check-retire in
+    node-done k z (Command.retire (s .args .id)) (a .result) (a .ensures) (c .before .before .before .enum-told .given .1) (s .args .id) _ refl retiredNode refl _ (c .retired-node .ensures)
 
 returns-2 : tie.Need-returns-2
 returns-2 c =
     let s = c .before .before .before in
     let k = s .args .self in
     let z = sized k (s .good .0, tt) in
-    let v = c .before .before .sound in
-    let t = c .before .if1 .left in
-    sym (ap outcome (refused-by k z (v .result) (v .ensures) t (Command.retire (s .args .id)) Error.Unknown (past-unknown k z (v .result) (v .ensures) t (s .args .id) [] (c .if2 .taken))))
-
-mul-node : tie.Need-mul-node
-mul-node c = search needs
-
-array-copy-out-node : tie.Need-array-copy-out-node
-array-copy-out-node c = search needs
-
-returns-3 : tie.Need-returns-3
-returns-3 c =
-    let s = c .before .before .before .before .before .before .before in
-    let k = s .args .self in
-    let z = sized k (s .good .0, tt) in
-    let v = c .before .before .before .before .before .before .sound in
-    let t = c .before .before .before .before .before .if1 .left in
-    sym (ap outcome (refused-by k z (v .result) (v .ensures) t (Command.retire (s .args .id)) Error.Unknown (absent-unknown k z (v .result) (v .ensures) t (s .args .id) [] (c .if3 .taken))))
-
-retired-node-requires : tie.Need-retired-node-requires
-retired-node-requires c κs = search needs
-
-mul-nodes : tie.Need-mul-nodes
-mul-nodes c = search needs
-
-array-set-from-nodes : tie.Need-array-set-from-nodes
-array-set-from-nodes c = search needs
-
-returns-4 : tie.Need-returns-4
-returns-4 c =
-    let s = c .before .before .before .before .before .before .before .before in
-    let k = s .args .self in
-    let z = sized k (s .good .0, tt) in
-    let v = c .before .before .before .before .before .before .before .sound in
-    let t = c .before .before .before .before .before .before .if1 .left in
-    let h : present ((tablesOf (layoutOf k)) .nodes) (s .args .id) ≡ true = node-has k z (v .result) (v .ensures) t (λ n. n .present) true (s .args .id) (not-false _ (c .before .if3 .left)) in
-    let r : c .retired-node .result ≡ retiredNode (nodeAt ((tablesOf (layoutOf k)) .nodes) (s .args .id)) = c .retired-node .ensures ∙ ap retiredNode (sym (node-is k z (v .result) (v .ensures) t (s .args .id))) in
-    sym (ap outcome (accepted-by k z (v .result) (v .ensures) t (Command.retire (s .args .id)) (rw h, tt)) ∙ ap (λ (x : Kernel). record { kernel = x; answer = Answer.Done }) (node-stored k z (v .result) (v .ensures) t (s .args .id) _ h ∙ rw (← r)))
+    let a = c .before .before .check-retire in
+    kept k z (Command.retire (s .args .id)) (a .result) (a .ensures) _ (c .enum-told2 .given .1)
 
 pub retire-spec : {M : Type 1} → statement M
 retire-spec =
     tie.close
     (tie.spec
-    sound-requires
-    returns
-    returns-2
+    check-retire-requires
+    enum-told
     mul-node
     array-copy-out-node
-    returns-3
     retired-node-requires
     mul-nodes
     array-set-from-nodes
-    returns-4)
+    enum-told-2
+    returns
+    returns-2)

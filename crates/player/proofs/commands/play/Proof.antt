@@ -84,35 +84,62 @@ issued-requires c κs = tt
 compact-bindings-requires : tie.Need-compact-bindings-requires Inv-loop μ-loop
 compact-bindings-requires c κs = tt
 
+answer-number-requires : tie.Need-answer-number-requires Inv-loop μ-loop
+answer-number-requires c κs = tt
+
 compact-declarations-requires : tie.Need-compact-declarations-requires Inv-loop μ-loop
 compact-declarations-requires c κs = tt
 
-answer-number-requires : tie.Need-answer-number-requires Inv-loop μ-loop
-answer-number-requires c κs = tt
+answer-number-requires-2 : tie.Need-answer-number-requires-2 Inv-loop μ-loop
+answer-number-requires-2 c κs = tt
 
 begin-requires : tie.Need-begin-requires Inv-loop μ-loop
 begin-requires c κs = tt
 
+answer-number-requires-3 : tie.Need-answer-number-requires-3 Inv-loop μ-loop
+answer-number-requires-3 c κs = tt
+
 finish-requires : tie.Need-finish-requires Inv-loop μ-loop
 finish-requires c κs = tt
+
+answer-number-requires-4 : tie.Need-answer-number-requires-4 Inv-loop μ-loop
+answer-number-requires-4 c κs = tt
 
 leave-requires : tie.Need-leave-requires Inv-loop μ-loop
 leave-requires c κs = tt
 
+answer-number-requires-5 : tie.Need-answer-number-requires-5 Inv-loop μ-loop
+answer-number-requires-5 c κs = tt
+
 leave-if-changed-requires : tie.Need-leave-if-changed-requires Inv-loop μ-loop
 leave-if-changed-requires c κs = tt
+
+answer-number-requires-6 : tie.Need-answer-number-requires-6 Inv-loop μ-loop
+answer-number-requires-6 c κs = tt
 
 retire-requires : tie.Need-retire-requires Inv-loop μ-loop
 retire-requires c κs = tt
 
+answer-number-requires-7 : tie.Need-answer-number-requires-7 Inv-loop μ-loop
+answer-number-requires-7 c κs = tt
+
 begin-cleanup-requires : tie.Need-begin-cleanup-requires Inv-loop μ-loop
 begin-cleanup-requires c κs = tt
+
+answer-number-requires-8 : tie.Need-answer-number-requires-8 Inv-loop μ-loop
+answer-number-requires-8 c κs = tt
 
 finish-cleanup-requires : tie.Need-finish-cleanup-requires Inv-loop μ-loop
 finish-cleanup-requires c κs = tt
 
+answer-number-requires-9 : tie.Need-answer-number-requires-9 Inv-loop μ-loop
+answer-number-requires-9 c κs = tt
+
 remove-requires : tie.Need-remove-requires Inv-loop μ-loop
 remove-requires c κs = tt
+
+answer-number-requires-10 : tie.Need-answer-number-requires-10 Inv-loop μ-loop
+answer-number-requires-10 c κs = tt
 
 port-at-requires-3 : tie.Need-port-at-requires-3 Inv-loop μ-loop
 port-at-requires-3 c κs = tt
@@ -120,18 +147,24 @@ port-at-requires-3 c κs = tt
 declare-provision-requires : tie.Need-declare-provision-requires Inv-loop μ-loop
 declare-provision-requires c κs = tt
 
+answer-number-requires-11 : tie.Need-answer-number-requires-11 Inv-loop μ-loop
+answer-number-requires-11 c κs = tt
+
 port-at-requires-4 : tie.Need-port-at-requires-4 Inv-loop μ-loop
 port-at-requires-4 c κs = tt
 
 release-provision-requires : tie.Need-release-provision-requires Inv-loop μ-loop
 release-provision-requires c κs = tt
 
+answer-number-requires-12 : tie.Need-answer-number-requires-12 Inv-loop μ-loop
+answer-number-requires-12 c κs = tt
+
 configure-pending-dependencies-requires :
     tie.Need-configure-pending-dependencies-requires Inv-loop μ-loop
 configure-pending-dependencies-requires c κs = tt
 
-answer-number-requires-2 : tie.Need-answer-number-requires-2 Inv-loop μ-loop
-answer-number-requires-2 c κs = tt
+answer-number-requires-13 : tie.Need-answer-number-requires-13 Inv-loop μ-loop
+answer-number-requires-13 c κs = tt
 
 slice-write-answers-3 : tie.Need-slice-write-answers-3 Inv-loop μ-loop
 slice-write-answers-3 c = omega arith
@@ -205,22 +238,33 @@ play-spec =
     insert-answer-number-requires
     issued-requires
     compact-bindings-requires
-    compact-declarations-requires
     answer-number-requires
+    compact-declarations-requires
+    answer-number-requires-2
     begin-requires
+    answer-number-requires-3
     finish-requires
+    answer-number-requires-4
     leave-requires
+    answer-number-requires-5
     leave-if-changed-requires
+    answer-number-requires-6
     retire-requires
+    answer-number-requires-7
     begin-cleanup-requires
+    answer-number-requires-8
     finish-cleanup-requires
+    answer-number-requires-9
     remove-requires
+    answer-number-requires-10
     port-at-requires-3
     declare-provision-requires
+    answer-number-requires-11
     port-at-requires-4
     release-provision-requires
+    answer-number-requires-12
     configure-pending-dependencies-requires
-    answer-number-requires-2
+    answer-number-requires-13
     slice-write-answers-3
     add-answered-3
     add-at

@@ -1,6 +1,6 @@
 -- `scans::points::covered` meets its contract. What is left of the columns answers as the whole does, whatever the ports are and whichever links meet the dependencies.
 use mathlib.Core.Path.{_∙_, _≡_, ap}
-use mathlib.Core.Bool.{Bool, _&&_, false, not, true}
+use mathlib.Core.Bool.{_&&_, false, not, true}
 use mathlib.Core.List.{List}
 use Prim.Native.Nat.{_-_, _<_, ℕ}
 use native.Mathlib.Omega.{arith}

@@ -1,7 +1,7 @@
 -- `scans::points::link_ok` meets its contract.
-use mathlib.Core.Path.{_∙_, _≡_, ap, refl, sym}
-use mathlib.Core.Bool.{Bool, _&&_, _||_, false, true}
-use lib.ListN.{getD, length-set, take}
+use mathlib.Core.Path.{_∙_, _≡_, refl, sym}
+use mathlib.Core.Bool.{_&&_, false, true}
+use lib.ListN.{length-set, take}
 use borrow.Author.Tests.{ltb-true, not-false, not-true}
 use Rattle.model.proofs.Laws.Booleans.{and-l, and-r, clash}
 use Rattle.model.specs.Records.{portOf}

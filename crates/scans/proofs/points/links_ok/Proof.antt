@@ -10,7 +10,7 @@ use lib.Seq.{slice}
 use borrow.Author.Needs.{needs}
 use borrow.Author.Tests.{not-false, not-true}
 use Rattle.model.specs.declared.Link.{Link}
-use Rattle.model.proofs.Laws.Booleans.{and-r, clash}
+use Rattle.model.proofs.Laws.Booleans.{clash}
 use Rattle.model.specs.Lists.{all, any}
 use Rattle.model.specs.Records.{blankLink, isBlankLink}
 use Rattle.model.specs.Soundness.{linkOk, ordered}
