@@ -50,6 +50,7 @@ fn controllers() -> Vec<Controller> {
         controllers::crowded(),
         controllers::stepped(64),
         controllers::stepped(61),
+        controllers::stepped(65521),
     ]
 }
 
