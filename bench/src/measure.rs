@@ -4,7 +4,7 @@ use crate::lists::List;
 use crate::script::Script;
 use crate::sides::{Side, SIDES};
 
-/// A list repeats its measured commands until they take this many nanoseconds, and are half as many as the others.
+/// A list repeats its measured commands until they take this many nanoseconds and, where repeating brings that about, are half as many as the others.
 const ENOUGH: f64 = 2_000_000.0;
 /// The most repeats of a list.
 const MOST: usize = 1 << 20;
@@ -59,11 +59,14 @@ fn shortest(times: &[f64]) -> f64 {
 
 impl Samples {
     fn new(side: &Side, list: &List) -> Samples {
+        // what one more repeat adds to the others
+        let added = list.scripts(2).1.len() - list.scripts(1).1.len();
+        let outgrow = 2 * list.measured(1) > added;
         let mut repeats = 1;
         loop {
             let (whole, rest) = list.scripts(repeats);
             let measured = list.measured(repeats);
-            let many = 2 * measured >= rest.len();
+            let many = !outgrow || 2 * measured >= rest.len();
             if repeats >= MOST || many && shortest_of_3(side, &whole) - shortest_of_3(side, &rest) >= ENOUGH {
                 return Samples { whole, rest, measured, with: Vec::new(), without: Vec::new() };
             }
