@@ -3,8 +3,8 @@ use mathlib.Core.Bool.{Bool}
 use Rattle.kernel.specs.declared.Kernel.{Kernel}
 use Rattle.model.specs.Kernels.{asked}
 use Rattle.model.specs.Layouts.{Layout, soundKernel}
-use Rattle.model.specs.Sizes.{controller}
 use Rattle.model.specs.Tables.{Tables}
+use Rattle.sizes.specs.Sizes.{sizes}
 
 abbrev pub layoutOf : Kernel → Layout
 layoutOf k = record { nodes = k .nodes; nodeCount = k .«node_count»; declarations = k .declarations; declarationCount = k .«declaration_count»; links = k .links; linkCount = k .«link_count» }
@@ -14,8 +14,8 @@ kernelOf k = record { nodes = k .nodes; «node_count» = k .nodeCount; declarati
 
 -- document 01's soundness of a kernel value
 abbrev pub isSound : Kernel → Bool
-isSound k = soundKernel controller (layoutOf k)
+isSound k = soundKernel sizes (layoutOf k)
 
 -- an observer or a check of a kernel value: the answer on its tables if it is sound, else the one given
 abbrev pub ask : {A : Type 0} → Kernel → A → (Tables → A) → A
-ask k unsound f = asked controller (layoutOf k) unsound f
+ask k unsound f = asked sizes (layoutOf k) unsound f

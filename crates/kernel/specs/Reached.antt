@@ -16,11 +16,12 @@ use Rattle.model.specs.Lifecycle.{begun, checkIteration}
 use Rattle.model.specs.Observers.{episodeGeneration, phase}
 use Rattle.model.specs.Refusals.{Reply, accepted}
 use Rattle.model.specs.Resolution.{committed, target}
-use Rattle.model.specs.Sizes.{controller, lastGeneration}
+use Rattle.model.specs.Sizes.{lastGeneration}
+use Rattle.sizes.specs.Sizes.{sizes}
 
 -- the value of Kernel::new
 abbrev pub newKernel : Kernel
-newKernel = kernelOf (emptyKernel controller)
+newKernel = kernelOf (emptyKernel sizes)
 
 -- each command on what the one before handed back
 unfoldable pub after : Kernel → List Command → Kernel

@@ -4,6 +4,7 @@ ghost use Rattle.kernel.specs.Outcomes.{command, compactionOutcome};
 ghost use Rattle.model.specs.Commands.{Command};
 use crate::CompactionOutcome;
 use crate::Kernel;
+use edits::Rule;
 use model::Answer;
 use model::Error;
 
@@ -44,7 +45,7 @@ impl Kernel {
             let count = self.declaration_count;
             let flags = scans::node_flags(nodes);
             let present = flags.present;
-            let kept = edits::owned_declarations(declarations, count, present);
+            let kept = edits::kept_declarations(declarations, count, present, Rule::Owned);
             let n = kept.count;
             let owned = kept.declarations;
             self.declarations = owned;

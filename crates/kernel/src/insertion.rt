@@ -6,15 +6,16 @@ ghost use Rattle.model.specs.Answers.{answer};
 ghost use Rattle.model.specs.Commands.{Command};
 ghost use Rattle.model.specs.Insertion.{checkInsert};
 ghost use Rattle.model.specs.Refusals.{Reply};
-ghost use Rattle.model.specs.Sizes.{controller};
+ghost use Rattle.sizes.specs.Sizes.{sizes};
 use crate::InsertOutcome;
 use crate::Kernel;
-use crate::soundness::tables_sound;
 use model::Answer;
 use model::Error;
 use model::InsertAnswer;
 use model::Parent;
 use model::PortList;
+use sizes::DECLARATIONS;
+use sizes::IDENTITIES;
 
 impl Kernel {
     // check_insert: what insert would answer, without its identity.
@@ -24,14 +25,14 @@ impl Kernel {
         dependencies: PortList,
         provisions: PortList,
     ) -> Answer
-        ensures { λ r. ⌜ r ≡ answer (ask self (Reply.refused Error.Damaged) (λ T. checkInsert controller T parent dependencies provisions)) ⌝ }
+        ensures { λ r. ⌜ r ≡ answer (ask self (Reply.refused Error.Damaged) (λ T. checkInsert sizes T parent dependencies provisions)) ⌝ }
     {
         let nodes = self.nodes;
         let declarations = self.declarations;
         let links = self.links;
         let issued = self.node_count;
         let count = self.declaration_count;
-        if !tables_sound(nodes, issued, declarations, count, links, self.link_count) {
+        if !soundness::tables_sound(nodes, issued, declarations, count, links, self.link_count) {
             return Answer::Refused(Error::Damaged);
         }
         let wanted = dependencies.count;
@@ -39,7 +40,7 @@ impl Kernel {
         if (32 < wanted) | (32 < offered) {
             return Answer::Refused(Error::Capacity);
         }
-        if 64 <= issued {
+        if IDENTITIES <= issued {
             return Answer::Refused(Error::Capacity);
         }
         let flags = scans::node_flags(nodes);
@@ -50,10 +51,10 @@ impl Kernel {
             }
         }
         let free = scans::check_provisions(provisions, declarations, count, present);
-        if !(free & scans::distinct_ports(dependencies)) {
+        if !(free & loops::distinct_ports(dependencies)) {
             return Answer::Refused(Error::Conflict);
         }
-        if 256 < count + wanted + offered {
+        if DECLARATIONS < count + wanted + offered {
             return Answer::Refused(Error::Capacity);
         }
         Answer::Done

@@ -1,21 +1,26 @@
 // Interface commands.
 ghost use mathlib.Core.Path.{_≡_};
-ghost use Rattle.kernel.specs.Outcomes.{command, nodeAnswer, outcome};
+ghost use Rattle.kernel.specs.Outcomes.{answerOf, command, outcome};
 ghost use Rattle.model.specs.Commands.{Command};
-ghost use Rattle.model.specs.Interface.{declareNodeTests};
+ghost use Rattle.model.specs.Interface.{configureTests, releaseProvisionTests};
+ghost use Rattle.sizes.specs.Sizes.{sizes};
 use crate::Kernel;
 use crate::Outcome;
+use edits::Rule;
 use model::Answer;
 use model::Error;
 use model::Port;
 use model::PortList;
+use model::checks::Row;
+use sizes::DECLARATIONS;
+use sizes::IDENTITIES;
 
 impl Kernel {
     // declare_provision: appends a provision, unless this owner provides the port.
     pub fn declare_provision(mut self, id: usize, port: Port) -> Outcome
         ensures { λ r. ⌜ r ≡ outcome (command self (Command.declareProvision id port)) ⌝ }
     {
-        let mut answer = self.check_declare(id);
+        let mut answer = self.check_node(id, Row::Declare);
         if let Answer::Done = answer {
             let nodes = self.nodes;
             let mut declarations = self.declarations;
@@ -25,7 +30,7 @@ impl Kernel {
                 let present = flags.present;
                 if scans::taken_in(declarations, count, present, port) {
                     answer = Answer::Refused(Error::Conflict);
-                } else if 256 <= count {
+                } else if DECLARATIONS <= count {
                     answer = Answer::Refused(Error::Capacity);
                 } else {
                     declarations[count] = model::provision(id, port);
@@ -40,21 +45,6 @@ impl Kernel {
         }
     }
 
-    // What declare_provision answers of the kernel and the component's node, before the declarations.
-    fn check_declare(self, id: usize) -> Answer
-        ensures { λ r. ⌜ r ≡ nodeAnswer self declareNodeTests id ⌝ }
-    {
-        if !self.sound() {
-            return Answer::Refused(Error::Damaged);
-        }
-        if 64 <= id {
-            return Answer::Refused(Error::Unknown);
-        }
-        let nodes = self.nodes;
-        let node = nodes[id];
-        model::checks::check_declare(node)
-    }
-
     // release_provision: drops every provision of this owner and port.
     pub fn release_provision(mut self, id: usize, port: Port) -> Outcome
         ensures { λ r. ⌜ r ≡ outcome (command self (Command.releaseProvision id port)) ⌝ }
@@ -63,7 +53,9 @@ impl Kernel {
         if let Answer::Done = answer {
             let declarations = self.declarations;
             let count = self.declaration_count;
-            let kept = edits::released_declarations(declarations, count, id, port);
+            let unread = [false; IDENTITIES];
+            let rule = Rule::Released(id, port);
+            let kept = edits::kept_declarations(declarations, count, unread, rule);
             let rest = kept.declarations;
             self.declarations = rest;
             self.declaration_count = kept.count;
@@ -76,18 +68,11 @@ impl Kernel {
 
     // What release_provision answers.
     fn check_release_provision(self, id: usize, port: Port) -> Answer
-        ensures { λ r. ⌜ r ≡ (outcome (command self (Command.releaseProvision id port))) .answer ⌝ }
+        ensures { λ r. ⌜ r ≡ answerOf self (λ T. releaseProvisionTests T id port) ⌝ }
     {
-        if !self.sound() {
-            return Answer::Refused(Error::Damaged);
-        }
-        if 64 <= id {
-            return Answer::Refused(Error::Unknown);
-        }
-        let nodes = self.nodes;
-        let node = nodes[id];
-        if !node.present {
-            return Answer::Refused(Error::Unknown);
+        let checked = self.check_node(id, Row::Present);
+        if let Answer::Refused(error) = checked {
+            return Answer::Refused(error);
         }
         let links = self.links;
         let linked = self.link_count;
@@ -105,7 +90,9 @@ impl Kernel {
         if let Answer::Done = answer {
             let declarations = self.declarations;
             let count = self.declaration_count;
-            let kept = edits::configured_declarations(declarations, count, id);
+            let unread = [false; IDENTITIES];
+            let rule = Rule::Configured(id);
+            let kept = edits::kept_declarations(declarations, count, unread, rule);
             let rest = kept.declarations;
             let n = kept.count;
             let all = edits::append_ports(rest, n, id, list, false);
@@ -120,29 +107,26 @@ impl Kernel {
 
     // What configure_pending_dependencies answers.
     fn check_configure_pending_dependencies(self, id: usize, list: PortList) -> Answer
-        ensures { λ r. ⌜ r ≡ (outcome (command self (Command.configurePendingDependencies id list))) .answer ⌝ }
+        ensures { λ r. ⌜ r ≡ answerOf self (λ T. configureTests sizes T id list) ⌝ }
     {
-        if !self.sound() {
+        let entry = self.entry(id);
+        if !entry.sound {
             return Answer::Refused(Error::Damaged);
         }
         let more = list.count;
         if 32 < more {
             return Answer::Refused(Error::Capacity);
         }
-        if 64 <= id {
-            return Answer::Refused(Error::Unknown);
-        }
-        let nodes = self.nodes;
-        let node = nodes[id];
-        let checked = model::checks::check_configure(node);
+        let node = entry.node;
+        let checked = model::checks::check(Row::Configure, node);
         if let Answer::Refused(error) = checked {
             return Answer::Refused(error);
         }
         let count = self.declaration_count;
-        if 256 < more + count {
+        if DECLARATIONS < more + count {
             return Answer::Refused(Error::Capacity);
         }
-        if !scans::distinct_ports(list) {
+        if !loops::distinct_ports(list) {
             return Answer::Refused(Error::Conflict);
         }
         Answer::Done

@@ -4,23 +4,27 @@ use model::Declaration;
 use model::InsertAnswer;
 use model::Link;
 use model::Node;
+use sizes::DECLARATIONS;
+use sizes::IDENTITIES;
+use sizes::LINKS;
 
 mod cleanup;
 mod compaction;
+mod component;
 mod insertion;
 mod interface;
 mod lifecycle;
 mod observers;
 mod resolution;
-mod soundness;
+mod sound;
 
 // Three tables, each with a count; an entry at or past its count is blank. A caller may pass any value.
 pub struct Kernel {
-    pub nodes: [Node; 64],
+    pub nodes: [Node; IDENTITIES],
     pub node_count: usize,
-    pub declarations: [Declaration; 256],
+    pub declarations: [Declaration; DECLARATIONS],
     pub declaration_count: usize,
-    pub links: [Link; 512],
+    pub links: [Link; LINKS],
     pub link_count: usize,
 }
 

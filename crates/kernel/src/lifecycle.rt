@@ -1,16 +1,20 @@
 // Lifecycle.
 ghost use mathlib.Core.Path.{_≡_};
 ghost use Rattle.kernel.specs.Fields.{ask};
-ghost use Rattle.kernel.specs.Outcomes.{command, outcome};
+ghost use Rattle.kernel.specs.Outcomes.{answerOf, command, outcome};
 ghost use Rattle.model.specs.Answers.{answer};
 ghost use Rattle.model.specs.Commands.{Command};
-ghost use Rattle.model.specs.Lifecycle.{checkIteration};
+ghost use Rattle.model.specs.Lifecycle.{checkIteration, leaveIfChangedTests};
 ghost use Rattle.model.specs.Refusals.{Reply};
 use crate::Kernel;
 use crate::Outcome;
+use crate::component::change;
 use model::Answer;
 use model::Error;
-use model::Phase;
+use model::checks::Row;
+use model::transitions::Transition;
+use sizes::IDENTITIES;
+use sizes::LINKS;
 
 impl Kernel {
     // begin: an Inactive component with a target becomes Loading, and the target its live links.
@@ -23,7 +27,7 @@ impl Kernel {
                 answer: Answer::Refused(Error::Damaged),
             };
         }
-        if 64 <= id {
+        if IDENTITIES <= id {
             return Outcome {
                 kernel: self,
                 answer: Answer::Refused(Error::Unknown),
@@ -49,7 +53,7 @@ impl Kernel {
         }
         let more = target.count;
         let linked = self.link_count;
-        if 512 - linked < more {
+        if LINKS - linked < more {
             return Outcome {
                 kernel: self,
                 answer: Answer::Refused(Error::Capacity),
@@ -79,7 +83,7 @@ impl Kernel {
         if !self.sound() {
             return Answer::Refused(Error::Damaged);
         }
-        if 64 <= id {
+        if IDENTITIES <= id {
             return Answer::Refused(Error::Unknown);
         }
         let nodes = self.nodes;
@@ -103,10 +107,9 @@ impl Kernel {
     {
         let answer = self.check_iteration(id);
         if let Answer::Done = answer {
-            let mut nodes = self.nodes;
-            let node = nodes[id];
-            nodes[id] = model::with_phase(Phase::Active, node);
-            self.nodes = nodes;
+            let nodes = self.nodes;
+            let changed = change(nodes, id, Transition::Finish);
+            self.nodes = changed;
         }
         Outcome {
             kernel: self,
@@ -118,32 +121,16 @@ impl Kernel {
     pub fn leave(mut self, id: usize) -> Outcome
         ensures { λ r. ⌜ r ≡ outcome (command self (Command.leave id)) ⌝ }
     {
-        let answer = self.check_leave(id);
+        let answer = self.check_node(id, Row::Running);
         if let Answer::Done = answer {
-            let mut nodes = self.nodes;
-            let node = nodes[id];
-            nodes[id] = model::with_phase(Phase::Unloading, node);
-            self.nodes = nodes;
+            let nodes = self.nodes;
+            let changed = change(nodes, id, Transition::Leave);
+            self.nodes = changed;
         }
         Outcome {
             kernel: self,
             answer: answer,
         }
-    }
-
-    // What leave answers.
-    fn check_leave(self, id: usize) -> Answer
-        ensures { λ r. ⌜ r ≡ (outcome (command self (Command.leave id))) .answer ⌝ }
-    {
-        if !self.sound() {
-            return Answer::Refused(Error::Damaged);
-        }
-        if 64 <= id {
-            return Answer::Refused(Error::Unknown);
-        }
-        let nodes = self.nodes;
-        let node = nodes[id];
-        model::checks::check_running(node)
     }
 
     // leave_if_changed: a Loading or Active component that has no target becomes Unloading.
@@ -152,10 +139,9 @@ impl Kernel {
     {
         let answer = self.check_leave_if_changed(id);
         if let Answer::Done = answer {
-            let mut nodes = self.nodes;
-            let node = nodes[id];
-            nodes[id] = model::with_phase(Phase::Unloading, node);
-            self.nodes = nodes;
+            let nodes = self.nodes;
+            let changed = change(nodes, id, Transition::Leave);
+            self.nodes = changed;
         }
         Outcome {
             kernel: self,
@@ -165,12 +151,12 @@ impl Kernel {
 
     // What leave_if_changed answers.
     fn check_leave_if_changed(self, id: usize) -> Answer
-        ensures { λ r. ⌜ r ≡ (outcome (command self (Command.leaveIfChanged id))) .answer ⌝ }
+        ensures { λ r. ⌜ r ≡ answerOf self (λ T. leaveIfChangedTests T id) ⌝ }
     {
         if !self.sound() {
             return Answer::Refused(Error::Damaged);
         }
-        if 64 <= id {
+        if IDENTITIES <= id {
             return Answer::Refused(Error::Unknown);
         }
         let nodes = self.nodes;
@@ -182,7 +168,7 @@ impl Kernel {
         let declarations = self.declarations;
         let count = self.declaration_count;
         let target = scans::target_table(nodes, declarations, count, id);
-        if !node.retired & target.there {
+        if !(node.retired | !target.there) {
             return Answer::Refused(Error::Changed);
         }
         Answer::Done
@@ -192,34 +178,15 @@ impl Kernel {
     pub fn retire(mut self, id: usize) -> Outcome
         ensures { λ r. ⌜ r ≡ outcome (command self (Command.retire id)) ⌝ }
     {
-        let answer = self.check_retire(id);
+        let answer = self.check_node(id, Row::Present);
         if let Answer::Done = answer {
-            let mut nodes = self.nodes;
-            let node = nodes[id];
-            nodes[id] = model::retired_node(node);
-            self.nodes = nodes;
+            let nodes = self.nodes;
+            let changed = change(nodes, id, Transition::Retire);
+            self.nodes = changed;
         }
         Outcome {
             kernel: self,
             answer: answer,
         }
-    }
-
-    // What retire answers.
-    fn check_retire(self, id: usize) -> Answer
-        ensures { λ r. ⌜ r ≡ (outcome (command self (Command.retire id))) .answer ⌝ }
-    {
-        if !self.sound() {
-            return Answer::Refused(Error::Damaged);
-        }
-        if 64 <= id {
-            return Answer::Refused(Error::Unknown);
-        }
-        let nodes = self.nodes;
-        let node = nodes[id];
-        if !node.present {
-            return Answer::Refused(Error::Unknown);
-        }
-        Answer::Done
     }
 }

@@ -12,20 +12,15 @@ use model::OptionGeneration;
 use model::OptionPhase;
 use model::Port;
 use scans::Identities;
+use sizes::IDENTITIES;
 
 impl Kernel {
     // Whether the identity is present.
     pub fn contains(self, id: usize) -> bool
         ensures { λ r. ⌜ r ≡ ask self false (λ T. contains T id) ⌝ }
     {
-        if !self.sound() {
-            return false;
-        }
-        if 64 <= id {
-            return false;
-        }
-        let nodes = self.nodes;
-        let node = nodes[id];
+        let entry = self.entry(id);
+        let node = entry.node;
         node.present
     }
 
@@ -33,14 +28,8 @@ impl Kernel {
     pub fn phase(self, id: usize) -> OptionPhase
         ensures { λ r. ⌜ r ≡ optionPhase (ask self none (λ T. phase T id)) ⌝ }
     {
-        if !self.sound() {
-            return OptionPhase::None;
-        }
-        if 64 <= id {
-            return OptionPhase::None;
-        }
-        let nodes = self.nodes;
-        let node = nodes[id];
+        let entry = self.entry(id);
+        let node = entry.node;
         if !node.present {
             return OptionPhase::None;
         }
@@ -52,14 +41,8 @@ impl Kernel {
     pub fn retired(self, id: usize) -> bool
         ensures { λ r. ⌜ r ≡ ask self false (λ T. retired T id) ⌝ }
     {
-        if !self.sound() {
-            return false;
-        }
-        if 64 <= id {
-            return false;
-        }
-        let nodes = self.nodes;
-        let node = nodes[id];
+        let entry = self.entry(id);
+        let node = entry.node;
         node.present & node.retired
     }
 
@@ -67,14 +50,8 @@ impl Kernel {
     pub fn cleanup_started(self, id: usize) -> bool
         ensures { λ r. ⌜ r ≡ ask self false (λ T. cleanupStarted T id) ⌝ }
     {
-        if !self.sound() {
-            return false;
-        }
-        if 64 <= id {
-            return false;
-        }
-        let nodes = self.nodes;
-        let node = nodes[id];
+        let entry = self.entry(id);
+        let node = entry.node;
         node.present & node.restoring
     }
 
@@ -82,14 +59,8 @@ impl Kernel {
     pub fn episode_generation(self, id: usize) -> OptionGeneration
         ensures { λ r. ⌜ r ≡ optionGeneration (ask self none (λ T. episodeGeneration T id)) ⌝ }
     {
-        if !self.sound() {
-            return OptionGeneration::None;
-        }
-        if 64 <= id {
-            return OptionGeneration::None;
-        }
-        let nodes = self.nodes;
-        let node = nodes[id];
+        let entry = self.entry(id);
+        let node = entry.node;
         if !node.present {
             return OptionGeneration::None;
         }
@@ -155,7 +126,7 @@ impl Kernel {
         ensures { λ r. ⌜ r ≡ identities (ask self [] ids) ⌝ }
     {
         if !self.sound() {
-            return scans::places_of([false; 64]);
+            return scans::places_of([false; IDENTITIES]);
         }
         let nodes = self.nodes;
         let flags = scans::node_flags(nodes);
@@ -168,7 +139,7 @@ impl Kernel {
         ensures { λ r. ⌜ r ≡ identities (ask self [] (λ T. children T id)) ⌝ }
     {
         if !self.sound() {
-            return scans::places_of([false; 64]);
+            return scans::places_of([false; IDENTITIES]);
         }
         let nodes = self.nodes;
         scans::places_of(scans::child_flags(nodes, id))

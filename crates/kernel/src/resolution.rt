@@ -31,17 +31,12 @@ impl Kernel {
     pub fn target(self, id: usize) -> TargetBindings
         ensures { λ r. ⌜ r ≡ targetBindings (ask self none (λ T. target T id)) ⌝ }
     {
-        if !self.sound() {
-            return scans::no_target();
-        }
-        if 64 <= id {
-            return scans::no_target();
-        }
-        let nodes = self.nodes;
-        let node = nodes[id];
+        let entry = self.entry(id);
+        let node = entry.node;
         if !node.present | node.retired {
             return scans::no_target();
         }
+        let nodes = self.nodes;
         let declarations = self.declarations;
         let count = self.declaration_count;
         scans::target_table(nodes, declarations, count, id)

@@ -11,26 +11,31 @@ ghost use Rattle.model.specs.Answers.{answer};
 ghost use Rattle.model.specs.Insertion.{checkInsert};
 ghost use Rattle.model.specs.Interface.{portList};
 ghost use Rattle.model.specs.Refusals.{Reply};
-ghost use Rattle.model.specs.Sizes.{controller};
+ghost use Rattle.sizes.specs.Sizes.{sizes};
 use kernel::Kernel;
 use model::Answer;
 use model::Error;
 use model::Parent;
 use model::Port;
 use model::PortList;
+use text::made::more_ports;
+use text::made::no_ports;
+use text::made::port_of;
 
-fn text(bytes: &[u8]) {
+fn write(bytes: &[u8]) {
     io::write_all(1, bytes);
 }
 
-fn number(n: u64) {
-    io::print_decimal(1, n);
+fn answered(answer: Answer) {
+    let mut out = io::buffer();
+    let at = text::field(&mut out, 0, model::answer_number(answer) as u64);
+    text::flush(&out, at);
 }
 
-fn answered(answer: Answer) {
-    text(b" ");
-    let n = model::answer_number(answer);
-    number(n as u64);
+fn number(n: usize) {
+    let mut out = io::buffer();
+    let at = text::number(&mut out, 0, n as u64);
+    text::flush(&out, at);
 }
 
 // The ports 0/REALM to 39/REALM.
@@ -39,11 +44,7 @@ fn ports_of(realm: u64) -> [Port; 40] {
     let mut ports = [blank; 40];
     let mut i = 0;
     while i < 40 {
-        let key = i as u64;
-        ports[i] = Port {
-            key: key,
-            realm: realm,
-        };
+        ports[i] = port_of(i as u64, realm);
         i += 1;
     }
     ports
@@ -52,28 +53,20 @@ fn ports_of(realm: u64) -> [Port; 40] {
 // The same, with place 31 equal to place 0.
 fn repeated(realm: u64) -> [Port; 40] {
     let mut ports = ports_of(realm);
-    ports[31] = Port {
-        key: 0,
-        realm: realm,
-    };
+    ports[31] = port_of(0, realm);
     ports
 }
 
-// The list of the first n ports.
+// The list of the first n of these ports; one of more than 32 has the first 32.
 fn listed(ports: [Port; 40], n: usize) -> PortList {
-    let blank = model::blank_port();
-    let mut first = [blank; 32];
+    let mut list = no_ports();
     let mut i = 0;
     while i < 32 {
-        if i < n {
-            first[i] = ports[i];
-        }
+        list.ports[i] = ports[i];
         i += 1;
     }
-    PortList {
-        ports: first,
-        count: n,
-    }
+    list.count = n;
+    list
 }
 
 // check_insert over the first n and m ports, lent.
@@ -86,7 +79,7 @@ fn over_slices(
     m: usize,
 ) -> Answer
     requires { ⌜ (n ≤ 40) × (m ≤ 40) ⌝ }
-    ensures { λ r. ⌜ r ≡ answer (ask kernel (Reply.refused Error.Damaged) (λ T. checkInsert controller T parent (portList (take n wanted)) (portList (take m offered)))) ⌝ }
+    ensures { λ r. ⌜ r ≡ answer (ask kernel (Reply.refused Error.Damaged) (λ T. checkInsert sizes T parent (portList (take n wanted)) (portList (take m offered)))) ⌝ }
 {
     slices::check_insert(kernel, parent, &wanted[..n], &offered[..m])
 }
@@ -108,28 +101,28 @@ fn over_lists(
 fn row(kernel: Kernel, parent: Parent, wanted: [Port; 40], n: usize, offered: [Port; 40])
     requires { ⌜ n ≤ 40 ⌝ }
 {
-    number(n as u64);
-    text(b" slices");
+    number(n);
+    write(b" slices");
     answered(over_slices(kernel, parent, wanted, n, offered, 0));
     answered(over_slices(kernel, parent, wanted, n, offered, 1));
     answered(over_slices(kernel, parent, wanted, n, offered, 31));
     answered(over_slices(kernel, parent, wanted, n, offered, 32));
     answered(over_slices(kernel, parent, wanted, n, offered, 33));
     answered(over_slices(kernel, parent, wanted, n, offered, 40));
-    text(b" lists");
+    write(b" lists");
     answered(over_lists(kernel, parent, wanted, n, offered, 0));
     answered(over_lists(kernel, parent, wanted, n, offered, 1));
     answered(over_lists(kernel, parent, wanted, n, offered, 31));
     answered(over_lists(kernel, parent, wanted, n, offered, 32));
     answered(over_lists(kernel, parent, wanted, n, offered, 33));
     answered(over_lists(kernel, parent, wanted, n, offered, 40));
-    text(b"\n");
+    write(b"\n");
 }
 
 fn table(name: &[u8], kernel: Kernel, parent: Parent, wanted: [Port; 40]) {
-    text(b"== ");
-    text(name);
-    text(b"\n");
+    write(b"== ");
+    write(name);
+    write(b"\n");
     let offered = ports_of(1);
     row(kernel, parent, wanted, 0, offered);
     row(kernel, parent, wanted, 1, offered);
@@ -141,17 +134,8 @@ fn table(name: &[u8], kernel: Kernel, parent: Parent, wanted: [Port; 40]) {
 
 // A kernel whose one component provides KEY/1.
 fn providing(key: u64) -> Kernel {
-    let blank = model::blank_port();
-    let none = PortList {
-        ports: [blank; 32],
-        count: 0,
-    };
-    let port = Port { key: key, realm: 1 };
-    let one = PortList {
-        ports: [port; 32],
-        count: 1,
-    };
-    let inserted = Kernel::new().insert(Parent::None, none, one);
+    let one = more_ports(no_ports(), 1, key, 1, 0);
+    let inserted = Kernel::new().insert(Parent::None, no_ports(), one);
     inserted.kernel
 }
 

@@ -1,18 +1,15 @@
 -- The answer enums of the code: what each of their cases says in document 01's words and numbers.
--- a command or a check: done, or the refusal
-use mathlib.Core.Bool.{Bool}
-use mathlib.Core.List.{List}
 use mathlib.Core.Option.{Option, none, some}
 use Prim.Native.Nat.{ℕ}
 use Rattle.model.specs.declared.Answer.{Answer}
-use Rattle.model.specs.declared.Error.{Error}
 use Rattle.model.specs.declared.InsertAnswer.{InsertAnswer}
 use Rattle.model.specs.declared.OptionGeneration.{OptionGeneration}
 use Rattle.model.specs.declared.OptionPhase.{OptionPhase}
 use Rattle.model.specs.declared.Phase.{Phase}
 use Rattle.model.specs.declared.Resolution.{Resolution}
-use Rattle.model.specs.Refusals.{Reply, first, number, orElse}
+use Rattle.model.specs.Refusals.{Reply, Tests, first, number, orElse}
 
+-- a command or a check: done, or the refusal
 abbrev pub answer : Reply → Answer
 answer Reply.done = Answer.Done
 answer (Reply.issued id) = Answer.Done
@@ -20,7 +17,7 @@ answer (Reply.removed n) = Answer.Done
 answer (Reply.refused e) = Answer.Refused e
 
 -- the refusal of the first test that applies, or done
-abbrev pub checked : List (Bool × Error) → Answer
+abbrev pub checked : Tests → Answer
 checked ts = answer (orElse (first ts) Reply.done)
 
 -- insert: done with the identity, or the refusal; it replies nothing else

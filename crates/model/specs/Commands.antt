@@ -1,11 +1,10 @@
 -- The fourteen commands: for each its row of tests, the tables that it leaves and what it replies; then a step and a run.
-use mathlib.Core.Bool.{Bool}
 use mathlib.Core.List.{List, [], _∷_}
 use mathlib.Core.Option.{Option, none, some}
 use Prim.Native.Nat.{ℕ}
 use lib.ListN.{length}
 use Rattle.model.specs.declared.Error.{Error}
-use Rattle.model.specs.declared.Node.{Node}
+use Rattle.model.specs.declared.records.Node.{Node}
 use Rattle.model.specs.declared.Parent.{Parent}
 use Rattle.model.specs.declared.Port.{Port}
 use Rattle.model.specs.declared.PortList.{PortList}
@@ -13,7 +12,7 @@ use Rattle.model.specs.Compaction.{bindingsCompacted, bindingsRemoved, d
 use Rattle.model.specs.Insertion.{insertTests, inserted}
 use Rattle.model.specs.Interface.{configureTests, declareProvisionTests, dependenciesConfigured, provisionDeclared, provisionReleased, releaseProvisionTests}
 use Rattle.model.specs.Lifecycle.{beginCleanupTests, beginTests, begun, cleanupBegun, cleanupFinished, finishCleanupTests, finished, iterationTests, leaveIfChangedTests, leaveTests, left, removeTests, removedFrom, retireTests, retiredFrom}
-use Rattle.model.specs.Refusals.{Reply, first}
+use Rattle.model.specs.Refusals.{Reply, Tests, first}
 use Rattle.model.specs.Sizes.{Sizes}
 use Rattle.model.specs.Tables.{Tables, empty, withNode}
 use Rattle.model.specs.UpdateNode.{updateTests}
@@ -35,7 +34,7 @@ pub data Command : Type 0 where
   compactDeclarations : Command
 
 -- its row of document 01's table, after the entry test (a kernel that is not sound refuses every command, Kernels.antt)
-abbrev pub tests : Sizes → Tables → Command → List (Bool × Error)
+abbrev pub tests : Sizes → Tables → Command → Tests
 tests S T (Command.insert q ds ps) = insertTests S T q ds ps
 tests S T (Command.declareProvision id p) = declareProvisionTests S T id p
 tests S T (Command.releaseProvision id p) = releaseProvisionTests T id p

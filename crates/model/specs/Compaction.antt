@@ -2,13 +2,14 @@
 use Prim.Native.Nat.{_-_, ℕ}
 use lib.ListN.{length}
 use Rattle.model.specs.Lists.{keep}
+use Rattle.model.specs.Records.{isLive, ownerIn}
 use Rattle.model.specs.Tables.{Tables, present, withDeclarations, withLinks}
 
 abbrev pub bindingsCompacted : Tables → Tables
-bindingsCompacted T = withLinks T (keep (λ l. l .live) (T .links))
+bindingsCompacted T = withLinks T (keep isLive (T .links))
 
 abbrev pub declarationsCompacted : Tables → Tables
-declarationsCompacted T = withDeclarations T (keep (λ d. present (T .nodes) (d .owner)) (T .declarations))
+declarationsCompacted T = withDeclarations T (keep (λ d. present (T .nodes) (ownerIn d)) (T .declarations))
 
 -- removed: the count before less the count after
 abbrev pub bindingsRemoved : Tables → ℕ

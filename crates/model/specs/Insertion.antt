@@ -4,14 +4,14 @@ use mathlib.Core.List.{List, [], _++_, _∷_, map}
 use Prim.Native.Nat.{_+_, ℕ}
 use lib.Dec.{leb, ltb}
 use lib.ListN.{length}
-use Rattle.model.specs.declared.Declaration.{Declaration}
+use Rattle.model.specs.declared.records.Declaration.{Declaration}
 use Rattle.model.specs.declared.Error.{Error}
 use Rattle.model.specs.declared.Parent.{Parent}
 use Rattle.model.specs.declared.PortList.{PortList}
 use Rattle.model.specs.Interface.{distinct, listed, taken, tooLong}
 use Rattle.model.specs.Lists.{any}
 use Rattle.model.specs.Records.{dependency, newNode, provision}
-use Rattle.model.specs.Refusals.{Reply, first, orElse}
+use Rattle.model.specs.Refusals.{Reply, Tests, first, orElse}
 use Rattle.model.specs.Sizes.{Sizes}
 use Rattle.model.specs.Tables.{Tables, present}
 
@@ -24,8 +24,14 @@ parentPresent T (Parent.Of p) = present (T .nodes) p
 abbrev pub clashes : Tables → PortList → PortList → Bool
 clashes T ds ps = not (distinct (listed ds)) || not (distinct (listed ps)) || any (taken T) (listed ps)
 
-abbrev pub insertTests : Sizes → Tables → Parent → PortList → PortList → List (Bool × Error)
-insertTests S T q ds ps = (tooLong ds || tooLong ps, Error.Capacity) ∷ (leb (S .identities) (length (T .nodes)), Error.Capacity) ∷ (not (parentPresent T q), Error.Unknown) ∷ (clashes T ds ps, Error.Conflict) ∷ (ltb (S .declarations) (length (T .declarations) + length (listed ds) + length (listed ps)), Error.Capacity) ∷ []
+abbrev pub insertTests : Sizes → Tables → Parent → PortList → PortList → Tests
+insertTests S T q ds ps =
+    (tooLong ds || tooLong ps, Error.Capacity)
+    ∷ (leb (S .identities) (length (T .nodes)), Error.Capacity)
+    ∷ (not (parentPresent T q), Error.Unknown)
+    ∷ (clashes T ds ps, Error.Conflict)
+    ∷ (ltb (S .declarations) (length (T .declarations) + length (listed ds) + length (listed ps)), Error.Capacity)
+    ∷ []
 
 -- the new node's declarations: dependencies, then provisions
 abbrev pub newDeclarations : ℕ → PortList → PortList → List Declaration

@@ -4,14 +4,15 @@ use mathlib.Core.List.{List, [], _++_, _∷_, map}
 use Prim.Native.Nat.{_+_, ℕ}
 use lib.Dec.{eqb, leb, ltb}
 use lib.ListN.{length, take}
-use Rattle.model.specs.declared.Declaration.{Declaration}
+use Rattle.model.specs.declared.records.Declaration.{Declaration}
 use Rattle.model.specs.declared.Error.{Error}
-use Rattle.model.specs.declared.Link.{Link}
-use Rattle.model.specs.declared.Node.{Node}
+use Rattle.model.specs.declared.records.Link.{Link}
+use Rattle.model.specs.declared.records.Node.{Node}
 use Rattle.model.specs.declared.Port.{Port}
 use Rattle.model.specs.declared.PortList.{PortList}
 use Rattle.model.specs.Lists.{any, keep, padded}
-use Rattle.model.specs.Records.{blankPort, dependency, isPending, isRunning, portOf, provision, samePort}
+use Rattle.model.specs.Records.{blankPort, declaredPort, dependency, isPending, isRunning, ownerIn, portIn, providerIn, provision, samePort}
+use Rattle.model.specs.Refusals.{Tests}
 use Rattle.model.specs.Resolution.{isDependencyOf}
 use Rattle.model.specs.Sizes.{Sizes, listLimit}
 use Rattle.model.specs.Soundness.{declares, isDeclaration}
@@ -48,7 +49,7 @@ absent n = (not (n .present), Error.Unknown)
 
 -- a provision of the port by a present owner, whatever its phase or retirement
 unfoldable pub takenBy : (ℕ → Bool) → Port → Declaration → Bool
-takenBy here p d = d .provides && samePort (d .port) p && here (d .owner)
+takenBy here p d = d .provides && samePort (declaredPort d) p && here (ownerIn d)
 
 unfoldable pub taken : Tables → Port → Bool
 taken T p = any (takenBy (present (T .nodes)) p) (T .declarations)
@@ -58,11 +59,13 @@ abbrev pub own : Tables → ℕ → Port → Bool
 own T id p = declares (T .declarations) id p true
 
 -- tested of the component's node
-abbrev pub declareNodeTests : Node → List (Bool × Error)
+abbrev pub declareNodeTests : Node → Tests
 declareNodeTests n = absent n ∷ (n .retired, Error.Retired) ∷ (not (isRunning (n .phase) || isPending n), Error.InvalidState) ∷ []
 
-abbrev pub declareProvisionTests : Sizes → Tables → ℕ → Port → List (Bool × Error)
-declareProvisionTests S T id p = declareNodeTests (nodeAt (T .nodes) id) ++ ((not (own T id p) && taken T p, Error.Conflict) ∷ (not (own T id p) && leb (S .declarations) (length (T .declarations)), Error.Capacity) ∷ [])
+abbrev pub declareProvisionTests : Sizes → Tables → ℕ → Port → Tests
+declareProvisionTests S T id p =
+    let new = not (own T id p) in
+    declareNodeTests (nodeAt (T .nodes) id) ++ ((new && taken T p, Error.Conflict) ∷ (new && leb (S .declarations) (length (T .declarations)), Error.Capacity) ∷ [])
 
 abbrev pub provisionDeclared : Tables → ℕ → Port → Tables
 provisionDeclared T id p = withDeclarations T (cond (own T id p) (T .declarations) (T .declarations ++ (provision id p ∷ [])))
@@ -71,9 +74,9 @@ provisionDeclared T id p = withDeclarations T (cond (own T id p) (T .declaration
 
 -- a live link with this provider and port
 unfoldable pub reliesOn : ℕ → Port → Link → Bool
-reliesOn id p l = l .live && eqb (l .binding .provider) id && samePort (portOf (l .binding)) p
+reliesOn id p l = l .live && eqb (providerIn l) id && samePort (portIn l) p
 
-abbrev pub releaseProvisionTests : Tables → ℕ → Port → List (Bool × Error)
+abbrev pub releaseProvisionTests : Tables → ℕ → Port → Tests
 releaseProvisionTests T id p = unknown T id ∷ (any (reliesOn id p) (T .links), Error.Relied) ∷ []
 
 -- drops every provision of that owner and port, possibly none
@@ -83,11 +86,13 @@ provisionReleased T id p = withDeclarations T (keep (λ d. not (isDeclaration id
 -- ---- configure_pending_dependencies
 
 -- tested of the component's node
-abbrev pub configureNodeTests : Node → List (Bool × Error)
+abbrev pub configureNodeTests : Node → Tests
 configureNodeTests n = absent n ∷ (n .retired, Error.Retired) ∷ (not (isPending n), Error.InvalidState) ∷ []
 
-abbrev pub configureTests : Sizes → Tables → ℕ → PortList → List (Bool × Error)
-configureTests S T id l = (tooLong l, Error.Capacity) ∷ (configureNodeTests (nodeAt (T .nodes) id) ++ ((ltb (S .declarations) (length (listed l) + length (T .declarations)), Error.Capacity) ∷ (not (distinct (listed l)), Error.Conflict) ∷ []))
+abbrev pub configureTests : Sizes → Tables → ℕ → PortList → Tests
+configureTests S T id l =
+    let full = ltb (S .declarations) (length (listed l) + length (T .declarations)) in
+    (tooLong l, Error.Capacity) ∷ (configureNodeTests (nodeAt (T .nodes) id) ++ ((full, Error.Capacity) ∷ (not (distinct (listed l)), Error.Conflict) ∷ []))
 
 -- drops the owner's dependencies, then appends the list in order
 abbrev pub dependenciesConfigured : Tables → ℕ → PortList → Tables

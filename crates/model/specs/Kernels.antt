@@ -1,5 +1,4 @@
 -- What a kernel answers, sound or not: the place 'entry' of document 01's table, over the sizes.
--- an observer or a check: its answer on the tables of a sound kernel, else the answer of an unsound one
 use mathlib.Core.Bool.{_&&_, cond}
 use mathlib.Core.List.{List, [], _∷_}
 use mathlib.Core.Option.{Option, none}
@@ -17,6 +16,7 @@ use Rattle.model.specs.Resolution.{committed, target}
 use Rattle.model.specs.Sizes.{Sizes}
 use Rattle.model.specs.Tables.{Tables, empty}
 
+-- an observer or a check: its answer on the tables of a sound kernel, else the answer of an unsound one
 unfoldable pub asked : {A : Type 0} → Sizes → Layout → A → (Tables → A) → A
 asked S k unsound f = cond (soundKernel S k) (f (tablesOf k)) unsound
 
@@ -46,6 +46,13 @@ reached S cs = kernelFrom S (emptyKernel S) cs
 abbrev pub targetOf : Sizes → Layout → ℕ → Option (List Binding)
 targetOf S k id = asked S k none (λ T. target T id)
 
+abbrev pub committedOf : Sizes → Layout → ℕ → List Binding
+committedOf S k id = asked S k [] (λ T. committed (T .links) id)
+
+-- what check_iteration replies
+abbrev pub iterationOf : Sizes → Layout → ℕ → Reply
+iterationOf S k id = asked S k (Reply.refused Error.Damaged) (λ T. checkIteration T id)
+
 abbrev pub phaseOf : Sizes → Layout → ℕ → Option Phase
 phaseOf S k id = asked S k none (λ T. phase T id)
 
@@ -58,7 +65,9 @@ abbrev pub kernelLast : Sizes → List Command → ℕ → Option (List Binding)
 kernelLast S cs id = kernelLastFrom S (emptyKernel S) id cs none
 
 abbrev pub KernelRuleAt : Sizes → Layout → ℕ → Option (List Binding) → Type 0
-KernelRuleAt S k id a = let o = commanded S k (Command.leaveIfChanged id) in Rule (phaseOf S k id) a (asked S k [] (λ T. committed (T .links) id)) (targetOf S k id) (asked S k (Reply.refused Error.Damaged) (λ T. checkIteration T id)) (o .reply) (phaseOf S (o .kernel) id)
+KernelRuleAt S k id a =
+    let o = commanded S k (Command.leaveIfChanged id) in
+    Rule (phaseOf S k id) a (committedOf S k id) (targetOf S k id) (iterationOf S k id) (o .reply) (phaseOf S (o .kernel) id)
 
 abbrev pub KernelIterationRule : Type 0
 KernelIterationRule = (S : Sizes) (cs : List Command) (id : ℕ) → KernelRuleAt S (reached S cs) id (kernelLast S cs id)

@@ -13,6 +13,7 @@ pub mod Compaction
 pub mod Interface
 pub mod Insertion
 pub mod Lifecycle
+pub mod Rows
 pub mod Commands
 pub mod Iteration
 pub mod Space

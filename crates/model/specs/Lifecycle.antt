@@ -7,13 +7,13 @@ use lib.Dec.{eqb, ltb}
 use lib.ListN.{length, set}
 use Rattle.model.specs.declared.Binding.{Binding}
 use Rattle.model.specs.declared.Error.{Error}
-use Rattle.model.specs.declared.Link.{Link}
-use Rattle.model.specs.declared.Node.{Node}
+use Rattle.model.specs.declared.records.Link.{Link}
+use Rattle.model.specs.declared.records.Node.{Node}
 use Rattle.model.specs.declared.Phase.{Phase}
 use Rattle.model.specs.Interface.{absent, unknown}
 use Rattle.model.specs.Lists.{any, isNone}
-use Rattle.model.specs.Records.{absentNode, deadFor, isChildOf, isInactive, isLoading, isRunning, isUnloading, liveLink, restoredNode, restoringNode, retiredNode, startedNode, withPhase}
-use Rattle.model.specs.Refusals.{Reply, first, orElse}
+use Rattle.model.specs.Records.{absentNode, deadFor, isChildOf, isInactive, isLoading, isRunning, isUnloading, liveLink, providerIn, restoredNode, restoringNode, retiredNode, startedNode, withPhase}
+use Rattle.model.specs.Refusals.{Reply, Tests, first, orElse}
 use Rattle.model.specs.Resolution.{target}
 use Rattle.model.specs.Sizes.{Sizes, lastGeneration}
 use Rattle.model.specs.Tables.{Tables, nodeAt, withNode}
@@ -29,27 +29,31 @@ bindings none = []
 bindings (some bs) = bs
 
 -- tested of the component's node
-abbrev pub beginNodeTests : Node → List (Bool × Error)
+abbrev pub beginNodeTests : Node → Tests
 beginNodeTests n = absent n ∷ (not (isInactive (n .phase)), Error.InvalidState) ∷ (n .retired, Error.Retired) ∷ (eqb (n .generation) lastGeneration, Error.Capacity) ∷ []
 
-abbrev pub beginTests : Sizes → Tables → ℕ → List (Bool × Error)
+abbrev pub beginTests : Sizes → Tables → ℕ → Tests
 beginTests S T id = beginNodeTests (nodeAt (T .nodes) id) ++ ((isNone (target T id), Error.MissingDependency) ∷ (ltb (S .links) (length (T .links) + length (bindings (target T id))), Error.Capacity) ∷ [])
 
 -- Loading, the next generation
 abbrev pub begunNode : Node → Node
 begunNode n = startedNode (suc (n .generation)) n
 
--- the target is appended as live links
+-- these bindings are appended as live links
+abbrev pub begunWith : Tables → ℕ → List Binding → Tables
+begunWith T id bs = record { nodes = set (T .nodes) id (begunNode (nodeAt (T .nodes) id)); declarations = T .declarations; links = T .links ++ map (liveLink id) bs }
+
+-- the target is
 abbrev pub begun : Tables → ℕ → Tables
-begun T id = record { nodes = set (T .nodes) id (begunNode (nodeAt (T .nodes) id)); declarations = T .declarations; links = T .links ++ map (liveLink id) (bindings (target T id)) }
+begun T id = begunWith T id (bindings (target T id))
 
 -- ---- check_iteration and finish
 
 -- tested of the component's node: it is Loading
-abbrev pub loadingTests : Node → List (Bool × Error)
+abbrev pub loadingTests : Node → Tests
 loadingTests n = absent n ∷ (not (isLoading (n .phase)), Error.InvalidState) ∷ []
 
-abbrev pub iterationTests : Tables → ℕ → List (Bool × Error)
+abbrev pub iterationTests : Tables → ℕ → Tests
 iterationTests T id = loadingTests (nodeAt (T .nodes) id) ++ ((isNone (target T id), Error.Changed) ∷ [])
 
 unfoldable pub checkIteration : Tables → ℕ → Reply
@@ -61,13 +65,13 @@ finished T id = withNode T id (withPhase Phase.Active (nodeAt (T .nodes) id))
 -- ---- leave and leave_if_changed
 
 -- tested of the component's node: it is Loading or Active
-abbrev pub runningTests : Node → List (Bool × Error)
+abbrev pub runningTests : Node → Tests
 runningTests n = absent n ∷ (not (isRunning (n .phase)), Error.InvalidState) ∷ []
 
-abbrev pub leaveTests : Tables → ℕ → List (Bool × Error)
+abbrev pub leaveTests : Tables → ℕ → Tests
 leaveTests T id = runningTests (nodeAt (T .nodes) id)
 
-abbrev pub leaveIfChangedTests : Tables → ℕ → List (Bool × Error)
+abbrev pub leaveIfChangedTests : Tables → ℕ → Tests
 leaveIfChangedTests T id = runningTests (nodeAt (T .nodes) id) ++ ((not (isNone (target T id)), Error.Changed) ∷ [])
 
 abbrev pub left : Tables → ℕ → Tables
@@ -75,7 +79,7 @@ left T id = withNode T id (withPhase Phase.Unloading (nodeAt (T .nodes) id))
 
 -- ---- retire: in each phase, and twice
 
-abbrev pub retireTests : Tables → ℕ → List (Bool × Error)
+abbrev pub retireTests : Tables → ℕ → Tests
 retireTests T id = unknown T id ∷ []
 
 abbrev pub retiredFrom : Tables → ℕ → Tables
@@ -85,13 +89,13 @@ retiredFrom T id = withNode T id (retiredNode (nodeAt (T .nodes) id))
 
 -- a live link with this provider
 unfoldable pub relies : ℕ → Link → Bool
-relies id l = l .live && eqb (l .binding .provider) id
+relies id l = l .live && eqb (providerIn l) id
 
 -- tested of the component's node: it is Unloading and not restoring
-abbrev pub unloadingTests : Node → List (Bool × Error)
+abbrev pub unloadingTests : Node → Tests
 unloadingTests n = absent n ∷ (not (isUnloading (n .phase) && not (n .restoring)), Error.InvalidState) ∷ []
 
-abbrev pub beginCleanupTests : Tables → ℕ → List (Bool × Error)
+abbrev pub beginCleanupTests : Tables → ℕ → Tests
 beginCleanupTests T id = unloadingTests (nodeAt (T .nodes) id) ++ ((any (relies id) (T .links), Error.Relied) ∷ [])
 
 abbrev pub cleanupBegun : Tables → ℕ → Tables
@@ -100,10 +104,10 @@ cleanupBegun T id = withNode T id (restoringNode (nodeAt (T .nodes) id))
 -- ---- finish_cleanup
 
 -- tested of the component's node
-abbrev pub restoringTests : Node → List (Bool × Error)
+abbrev pub restoringTests : Node → Tests
 restoringTests n = absent n ∷ (not (n .restoring), Error.InvalidState) ∷ []
 
-abbrev pub finishCleanupTests : Tables → ℕ → List (Bool × Error)
+abbrev pub finishCleanupTests : Tables → ℕ → Tests
 finishCleanupTests T id = restoringTests (nodeAt (T .nodes) id)
 
 -- every link of the consumer becomes dead; no link record goes
@@ -113,10 +117,10 @@ cleanupFinished T id = record { nodes = set (T .nodes) id (restoredNode (nodeAt 
 -- ---- remove
 
 -- tested of the component's node: it is retired and Inactive
-abbrev pub retiredTests : Node → List (Bool × Error)
+abbrev pub retiredTests : Node → Tests
 retiredTests n = absent n ∷ (not (n .retired && isInactive (n .phase)), Error.InvalidState) ∷ []
 
-abbrev pub removeTests : Tables → ℕ → List (Bool × Error)
+abbrev pub removeTests : Tables → ℕ → Tests
 removeTests T id = retiredTests (nodeAt (T .nodes) id) ++ ((any (isChildOf id) (T .nodes), Error.Children) ∷ [])
 
 -- clears present only

@@ -4,12 +4,12 @@ use mathlib.Core.Bool.{false, true}
 use mathlib.Core.List.{List}
 use Prim.Native.Nat.{_<_, _≤_, ℕ}
 use lib.ListN.{getD, length}
-use Rattle.model.specs.declared.Declaration.{Declaration}
-use Rattle.model.specs.declared.Link.{Link}
-use Rattle.model.specs.declared.Node.{Node}
+use Rattle.model.specs.declared.records.Declaration.{Declaration}
+use Rattle.model.specs.declared.records.Link.{Link}
+use Rattle.model.specs.declared.records.Node.{Node}
 use Rattle.model.specs.declared.Parent.{Parent}
 use Rattle.model.specs.declared.Phase.{Phase}
-use Rattle.model.specs.Records.{dependency, portOf, provision}
+use Rattle.model.specs.Records.{consumerIn, declaredPort, dependency, ownerIn, parentIn, portIn, providerIn, provision}
 use Rattle.model.specs.Sizes.{Sizes}
 use Rattle.model.specs.Tables.{Tables}
 
@@ -31,27 +31,35 @@ Installed T id = (n : Node) × At (T .nodes) id n × (n .present ≡ true) × (n
 abbrev pub Restoring : Tables → ℕ → Type 0
 Restoring T id = (n : Node) × At (T .nodes) id n × (n .restoring ≡ true)
 
+-- d stands at place i, a provision of a present owner
+abbrev pub Offered : Tables → ℕ → Declaration → Type 0
+Offered T i d = At (T .declarations) i d × (d .provides ≡ true) × Present T (ownerIn d)
+
+-- a live link of d's owner has d's port
+abbrev pub Met : Tables → Declaration → Type 0
+Met T d = (l : Link) × Among (T .links) l × (l .live ≡ true) × (consumerIn l ≡ ownerIn d) × (portIn l ≡ declaredPort d)
+
 pub record Points (T : Tables) : Type 0 where
   -- every declaration's owner is below the node count
-  pub owners : (i : ℕ) (d : Declaration) → At (T .declarations) i d → d .owner < length (T .nodes)
+  pub owners : (i : ℕ) (d : Declaration) → At (T .declarations) i d → ownerIn d < length (T .nodes)
   -- two provisions of one port by present owners have the same owner
-  pub provisions : (i j : ℕ) (d e : Declaration) → At (T .declarations) i d → At (T .declarations) j e → d .provides ≡ true → e .provides ≡ true → Present T (d .owner) → Present T (e .owner) → d .port ≡ e .port → d .owner ≡ e .owner
+  pub provisions : (i j : ℕ) (d e : Declaration) → Offered T i d → Offered T j e → declaredPort d ≡ declaredPort e → ownerIn d ≡ ownerIn e
   -- an absent node is Inactive and not restoring
   pub absent : (i : ℕ) (n : Node) → At (T .nodes) i n → n .present ≡ false → (n .phase ≡ Phase.Inactive) × (n .restoring ≡ false)
   -- a restoring node is present and Unloading
   pub restoring : (i : ℕ) (n : Node) → At (T .nodes) i n → n .restoring ≡ true → (n .present ≡ true) × (n .phase ≡ Phase.Unloading)
   -- a present node's parent, if any, is present and has a smaller identity
-  pub parents : (i p : ℕ) (n : Node) → At (T .nodes) i n → n .present ≡ true → n .parent ≡ Parent.Of p → Present T p × (p < i)
+  pub parents : (i p : ℕ) (n : Node) → At (T .nodes) i n → n .present ≡ true → parentIn n ≡ Parent.Of p → Present T p × (p < i)
   -- a live link's consumer and provider are present and not Inactive
-  pub ends : (i : ℕ) (l : Link) → At (T .links) i l → l .live ≡ true → Installed T (l .consumer) × Installed T (l .binding .provider)
+  pub ends : (i : ℕ) (l : Link) → At (T .links) i l → l .live ≡ true → Installed T (consumerIn l) × Installed T (providerIn l)
   -- its provider is not restoring
-  pub providers : (i : ℕ) (l : Link) → At (T .links) i l → l .live ≡ true → Restoring T (l .binding .provider) → ⊥
+  pub providers : (i : ℕ) (l : Link) → At (T .links) i l → l .live ≡ true → Restoring T (providerIn l) → ⊥
   -- and both declared the port, as dependency and as provision
-  pub declared : (i : ℕ) (l : Link) → At (T .links) i l → l .live ≡ true → Among (T .declarations) (dependency (l .consumer) (portOf (l .binding))) × Among (T .declarations) (provision (l .binding .provider) (portOf (l .binding)))
+  pub declared : (i : ℕ) (l : Link) → At (T .links) i l → l .live ≡ true → Among (T .declarations) (dependency (consumerIn l) (portIn l)) × Among (T .declarations) (provision (providerIn l) (portIn l))
   -- where a live link's provider is a live link's consumer, the latter link stands strictly earlier
-  pub order : (i j : ℕ) (l m : Link) → At (T .links) i l → At (T .links) j m → l .live ≡ true → m .live ≡ true → l .binding .provider ≡ m .consumer → j < i
+  pub order : (i j : ℕ) (l m : Link) → At (T .links) i l → At (T .links) j m → l .live ≡ true → m .live ≡ true → providerIn l ≡ consumerIn m → j < i
   -- each dependency of a present node that isn't Inactive has a live link of that consumer with that port
-  pub covered : (i : ℕ) (d : Declaration) → At (T .declarations) i d → d .provides ≡ false → Installed T (d .owner) → (l : Link) × Among (T .links) l × (l .live ≡ true) × (l .consumer ≡ d .owner) × (portOf (l .binding) ≡ d .port)
+  pub covered : (i : ℕ) (d : Declaration) → At (T .declarations) i d → d .provides ≡ false → Installed T (ownerIn d) → Met T d
 
 -- the tables are within the sizes
 abbrev pub Within : Sizes → Tables → Type 0

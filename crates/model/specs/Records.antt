@@ -1,12 +1,15 @@
 -- One record or one enum: tests on it, its blank value, and a node written anew for each transition.
+-- Only this file and the laws about it (Laws/Records, Laws/Blanks) name the fields of Node, Declaration and Link, or make one; other files use the
+-- readers and makers here, and name only fields that are a yes/no, a phase or a generation.
 use mathlib.Core.Bool.{Bool, _&&_, _||_, false, not, true}
 use mathlib.Core.List.{List, [], _∷_}
 use Prim.Native.Nat.{ℕ}
 use lib.Dec.{eqb}
 use Rattle.model.specs.declared.Binding.{Binding}
-use Rattle.model.specs.declared.Declaration.{Declaration}
-use Rattle.model.specs.declared.Link.{Link}
-use Rattle.model.specs.declared.Node.{Node}
+use Rattle.model.specs.declared.records.Declaration.{Declaration}
+use Rattle.model.specs.declared.records.Link.{Link}
+use Rattle.model.specs.declared.records.Node.{Node}
+use Rattle.model.specs.declared.records.StoredParent.{StoredParent}
 use Rattle.model.specs.declared.Parent.{Parent}
 use Rattle.model.specs.declared.Phase.{Phase}
 use Rattle.model.specs.declared.Port.{Port}
@@ -52,7 +55,7 @@ abbrev pub hasParent : ℕ → Parent → Bool
 hasParent id Parent.None = false
 hasParent id (Parent.Of p) = eqb p id
 
--- ---- ports and bindings
+-- ---- ports and bindings, as callers see them
 
 abbrev pub samePort : Port → Port → Bool
 samePort p q = eqb (p .key) (q .key) && eqb (p .realm) (q .realm)
@@ -63,60 +66,78 @@ portOf b = record { key = b .key; realm = b .realm }
 abbrev pub bindingOf : Port → ℕ → Binding
 bindingOf p o = record { key = p .key; realm = p .realm; provider = o }
 
--- ---- blank records: every number 0, every yes/no no, phase Inactive, no parent
-
 abbrev pub blankPort : Port
 blankPort = record { key = 0; realm = 0 }
 
 abbrev pub blankBinding : Binding
 blankBinding = record { key = 0; realm = 0; provider = 0 }
 
-abbrev pub blankNode : Node
-blankNode = record { present = false; retired = false; phase = Phase.Inactive; restoring = false; parent = Parent.None; generation = 0 }
+-- ---- the stored records, read
 
-abbrev pub blankDeclaration : Declaration
-blankDeclaration = record { owner = 0; port = blankPort; provides = false }
+-- a parent as a node stores it, and as callers see it
+abbrev pub storedParent : Parent → StoredParent
+storedParent Parent.None = StoredParent.None
+storedParent (Parent.Of p) = StoredParent.Of p
 
-abbrev pub blankLink : Link
-blankLink = record { consumer = 0; binding = blankBinding; live = false }
+abbrev pub givenParent : StoredParent → Parent
+givenParent StoredParent.None = Parent.None
+givenParent (StoredParent.Of p) = Parent.Of p
 
-abbrev pub blankNodeTests : Node → List Bool
-blankNodeTests n = not (n .present) ∷ not (n .retired) ∷ isInactive (n .phase) ∷ not (n .restoring) ∷ noParent (n .parent) ∷ eqb (n .generation) 0 ∷ []
+abbrev pub parentIn : Node → Parent
+parentIn n = givenParent (n .parent)
 
-abbrev pub isBlankNode : Node → Bool
-isBlankNode n = conj (blankNodeTests n)
+abbrev pub ownerIn : Declaration → ℕ
+ownerIn d = d .owner
 
-abbrev pub blankDeclarationTests : Declaration → List Bool
-blankDeclarationTests d = eqb (d .owner) 0 ∷ eqb (d .port .key) 0 ∷ eqb (d .port .realm) 0 ∷ not (d .provides) ∷ []
+abbrev pub declaredPort : Declaration → Port
+declaredPort d = d .port
 
-abbrev pub isBlankDeclaration : Declaration → Bool
-isBlankDeclaration d = conj (blankDeclarationTests d)
+abbrev pub consumerIn : Link → ℕ
+consumerIn l = l .consumer
 
-abbrev pub blankLinkTests : Link → List Bool
-blankLinkTests l = eqb (l .consumer) 0 ∷ eqb (l .binding .key) 0 ∷ eqb (l .binding .realm) 0 ∷ eqb (l .binding .provider) 0 ∷ not (l .live) ∷ []
+abbrev pub providerIn : Link → ℕ
+providerIn l = l .provider
 
-abbrev pub isBlankLink : Link → Bool
-isBlankLink l = conj (blankLinkTests l)
+abbrev pub portIn : Link → Port
+portIn l = record { key = l .key; realm = l .realm }
 
--- ---- declarations and links
+abbrev pub bindingIn : Link → Binding
+bindingIn l = bindingOf (portIn l) (providerIn l)
+
+abbrev pub isLive : Link → Bool
+isLive l = l .live
+
+-- ---- the stored records, made
+
+-- present or not, retired or not, not restoring
+abbrev pub nodeOf : Bool → Bool → Phase → Parent → ℕ → Node
+nodeOf present retired f p g = record { present = present; retired = retired; phase = f; restoring = false; parent = storedParent p; generation = g }
+
+abbrev pub newNode : Parent → Node
+newNode p = nodeOf true false Phase.Inactive p 0
+
+-- a provision or a dependency
+abbrev pub declarationOf : ℕ → Bool → Port → Declaration
+declarationOf o provides p = record { owner = o; port = p; provides = provides }
 
 abbrev pub dependency : ℕ → Port → Declaration
-dependency o p = record { owner = o; port = p; provides = false }
+dependency o p = declarationOf o false p
 
 abbrev pub provision : ℕ → Port → Declaration
-provision o p = record { owner = o; port = p; provides = true }
+provision o p = declarationOf o true p
+
+-- a live link or a dead one
+abbrev pub linkOf : ℕ → Binding → Bool → Link
+linkOf id b live = record { key = b .key; realm = b .realm; consumer = id; provider = b .provider; live = live }
 
 abbrev pub liveLink : ℕ → Binding → Link
-liveLink id b = record { consumer = id; binding = b; live = true }
+liveLink id b = linkOf id b true
 
 -- a link of this consumer becomes dead; another stays
 abbrev pub deadFor : ℕ → Link → Link
-deadFor id l = record { consumer = l .consumer; binding = l .binding; live = l .live && not (eqb (l .consumer) id) }
+deadFor id l = linkOf (consumerIn l) (bindingIn l) (l .live && not (eqb (consumerIn l) id))
 
 -- ---- nodes written anew
-
-abbrev pub newNode : Parent → Node
-newNode p = record { present = true; retired = false; phase = Phase.Inactive; restoring = false; parent = p; generation = 0 }
 
 abbrev pub withPhase : Phase → Node → Node
 withPhase f n = record { present = n .present; retired = n .retired; phase = f; restoring = n .restoring; parent = n .parent; generation = n .generation }
@@ -137,6 +158,35 @@ restoredNode n = record { present = n .present; retired = n .retired; phase = Ph
 
 abbrev pub absentNode : Node → Node
 absentNode n = record { present = false; retired = n .retired; phase = n .phase; restoring = n .restoring; parent = n .parent; generation = n .generation }
+
+-- ---- blank records: every number 0, every yes/no no, phase Inactive, no parent
+
+abbrev pub blankNode : Node
+blankNode = nodeOf false false Phase.Inactive Parent.None 0
+
+abbrev pub blankDeclaration : Declaration
+blankDeclaration = declarationOf 0 false blankPort
+
+abbrev pub blankLink : Link
+blankLink = linkOf 0 blankBinding false
+
+abbrev pub blankNodeTests : Node → List Bool
+blankNodeTests n = not (n .present) ∷ not (n .retired) ∷ isInactive (n .phase) ∷ not (n .restoring) ∷ noParent (parentIn n) ∷ eqb (n .generation) 0 ∷ []
+
+abbrev pub isBlankNode : Node → Bool
+isBlankNode n = conj (blankNodeTests n)
+
+abbrev pub blankDeclarationTests : Declaration → List Bool
+blankDeclarationTests d = eqb (d .owner) 0 ∷ eqb (d .port .key) 0 ∷ eqb (d .port .realm) 0 ∷ not (d .provides) ∷ []
+
+abbrev pub isBlankDeclaration : Declaration → Bool
+isBlankDeclaration d = conj (blankDeclarationTests d)
+
+abbrev pub blankLinkTests : Link → List Bool
+blankLinkTests l = eqb (l .key) 0 ∷ eqb (l .realm) 0 ∷ eqb (l .consumer) 0 ∷ eqb (l .provider) 0 ∷ not (l .live) ∷ []
+
+abbrev pub isBlankLink : Link → Bool
+isBlankLink l = conj (blankLinkTests l)
 
 -- ---- tests on a node
 
@@ -165,4 +215,4 @@ isConsistent n = conj (consistencyTests n)
 
 -- present, and a child of this identity
 abbrev pub isChildOf : ℕ → Node → Bool
-isChildOf id n = n .present && hasParent id (n .parent)
+isChildOf id n = n .present && hasParent id (parentIn n)

@@ -37,7 +37,7 @@ abbrev pub Tests : Type 0
 Tests = List (Bool × Error)
 
 -- the refusal of the first test that applies
-unfoldable pub first : List (Bool × Error) → Option Error
+unfoldable pub first : Tests → Option Error
 first [] = none
 first (t ∷ ts) = cond (t .0) (some (t .1)) (first ts)
 

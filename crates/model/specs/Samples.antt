@@ -1,13 +1,12 @@
 -- The sample sequences C01 to C12, and the order of the tests, each as one table of rows: what is asked of a kernel, and what it shows.
--- a command, or a question that changes nothing
 use mathlib.Core.Path.{_≡_}
 use mathlib.Core.Bool.{Bool, cond, false, true}
 use mathlib.Core.List.{List, [], _∷_, map}
 use mathlib.Core.Option.{Option, none, some}
 use Prim.Native.Nat.{suc, ℕ}
 use Rattle.model.specs.declared.Error.{Error}
-use Rattle.model.specs.declared.Link.{Link}
-use Rattle.model.specs.declared.Node.{Node}
+use Rattle.model.specs.declared.records.Link.{Link}
+use Rattle.model.specs.declared.records.Node.{Node}
 use Rattle.model.specs.declared.Parent.{Parent}
 use Rattle.model.specs.declared.Phase.{Phase}
 use Rattle.model.specs.declared.Port.{Port}
@@ -18,11 +17,12 @@ use Rattle.model.specs.Kernels.{asked, commanded, emptyKernel}
 use Rattle.model.specs.Layouts.{Layout, tablesOf}
 use Rattle.model.specs.Lifecycle.{checkIteration}
 use Rattle.model.specs.Observers.{episodeGeneration, ids, phase}
-use Rattle.model.specs.Records.{dependency, provision}
+use Rattle.model.specs.Records.{bindingOf, dependency, linkOf, nodeOf, provision}
 use Rattle.model.specs.Refusals.{Reply}
 use Rattle.model.specs.Sizes.{Sizes, controller, listLimit}
 use Rattle.model.specs.Tables.{Tables}
 
+-- a command, or a question that changes nothing
 pub data Ask : Type 0 where
   does : Command → Ask
   checks : ℕ → Ask
@@ -87,24 +87,27 @@ only p = portList (p ∷ [])
 abbrev P : Port
 P = port 7 1
 
-abbrev node : Bool → Bool → Phase → Parent → ℕ → Node
-node p r f q g = record { present = p; retired = r; phase = f; restoring = false; parent = q; generation = g }
-
 -- consumer 1, provider 0
 abbrev link10 : Bool → Link
-link10 b = record { consumer = 1; binding = record { key = 7; realm = 1; provider = 0 }; live = b }
+link10 b = linkOf 1 (bindingOf P 0) b
+
+-- present and with no parent, in this phase and generation
+abbrev root : Phase → ℕ → Node
+root f g = nodeOf true false f Parent.None g
 
 abbrev after01 : Tables
-after01 = record { nodes = node true false Phase.Inactive Parent.None 0 ∷ []; declarations = provision 0 P ∷ []; links = [] }
+after01 = record { nodes = root Phase.Inactive 0 ∷ []; declarations = provision 0 P ∷ []; links = [] }
 
 abbrev after05 : Tables
-after05 = record { nodes = node true false Phase.Active Parent.None 1 ∷ node true false Phase.Loading Parent.None 1 ∷ []; declarations = provision 0 P ∷ dependency 1 P ∷ []; links = link10 true ∷ [] }
+after05 = record { nodes = root Phase.Active 1 ∷ nodeOf true false Phase.Loading Parent.None 1 ∷ []; declarations = provision 0 P ∷ dependency 1 P ∷ []; links = link10 true ∷ [] }
 
 abbrev after08 : Bool → Tables
-after08 compacted = record { nodes = node true false Phase.Unloading Parent.None 1 ∷ node true false Phase.Inactive Parent.None 1 ∷ []; declarations = provision 0 P ∷ dependency 1 P ∷ []; links = cond compacted [] (link10 false ∷ []) }
+after08 compacted = record { nodes = root Phase.Unloading 1 ∷ root Phase.Inactive 1 ∷ []; declarations = provision 0 P ∷ dependency 1 P ∷ []; links = cond compacted [] (link10 false ∷ []) }
 
 abbrev after11 : Tables
-after11 = record { nodes = node false true Phase.Inactive Parent.None 1 ∷ node true true Phase.Inactive Parent.None 1 ∷ node true false Phase.Inactive Parent.None 0 ∷ node true false Phase.Inactive (Parent.Of 1) 0 ∷ []; declarations = dependency 1 P ∷ provision 2 P ∷ []; links = [] }
+after11 =
+    let ns = nodeOf false true Phase.Inactive Parent.None 1 ∷ nodeOf true true Phase.Inactive Parent.None 1 ∷ root Phase.Inactive 0 ∷ nodeOf true false Phase.Inactive (Parent.Of 1) 0 ∷ [] in
+    record { nodes = ns; declarations = dependency 1 P ∷ provision 2 P ∷ []; links = [] }
 
 abbrev pub samples : List Row
 samples =

@@ -4,29 +4,29 @@ use mathlib.Core.List.{List, [], _∷_}
 use Prim.Native.Nat.{ℕ}
 use lib.Dec.{eqb, leb, ltb}
 use lib.ListN.{length}
-use Rattle.model.specs.declared.Declaration.{Declaration}
-use Rattle.model.specs.declared.Link.{Link}
-use Rattle.model.specs.declared.Node.{Node}
+use Rattle.model.specs.declared.records.Declaration.{Declaration}
+use Rattle.model.specs.declared.records.Link.{Link}
+use Rattle.model.specs.declared.records.Node.{Node}
 use Rattle.model.specs.declared.Parent.{Parent}
 use Rattle.model.specs.declared.Port.{Port}
 use Rattle.model.specs.Lists.{_⇒_, all, allAt, any, conj, onward}
-use Rattle.model.specs.Records.{isConsistent, portOf, samePort}
+use Rattle.model.specs.Records.{consumerIn, declaredPort, isConsistent, ownerIn, parentIn, portIn, providerIn, samePort}
 use Rattle.model.specs.Sizes.{Sizes}
 use Rattle.model.specs.Tables.{Tables, installed, present, serving}
 
 -- ---- 1: every declaration's owner is below the node count
 
 unfoldable pub hasOwner : ℕ → Declaration → Bool
-hasOwner count d = ltb (d .owner) count
+hasOwner count d = ltb (ownerIn d) count
 
 -- ---- 2: two provisions of one port by present owners have the same owner
 
 -- `here` tells which identities are present
 abbrev pub rivalTests : (ℕ → Bool) → Declaration → Declaration → List Bool
-rivalTests here d e = d .provides ∷ e .provides ∷ here (d .owner) ∷ here (e .owner) ∷ samePort (d .port) (e .port) ∷ []
+rivalTests here d e = d .provides ∷ e .provides ∷ here (ownerIn d) ∷ here (ownerIn e) ∷ samePort (declaredPort d) (declaredPort e) ∷ []
 
 unfoldable pub sameOwner : (ℕ → Bool) → Declaration → Declaration → Bool
-sameOwner here d e = conj (rivalTests here d e) ⇒ eqb (d .owner) (e .owner)
+sameOwner here d e = conj (rivalTests here d e) ⇒ eqb (ownerIn d) (ownerIn e)
 
 -- ---- 3: a node is consistent, and a present one's parent, if any, is present and has a smaller identity
 
@@ -35,19 +35,19 @@ parentOk ns id Parent.None = true
 parentOk ns id (Parent.Of p) = ltb p id && present ns p
 
 unfoldable pub nodeOk : List Node → ℕ → Node → Bool
-nodeOk ns id n = isConsistent n && (n .present ⇒ parentOk ns id (n .parent))
+nodeOk ns id n = isConsistent n && (n .present ⇒ parentOk ns id (parentIn n))
 
 -- ---- 4: a live link's ends are present and not Inactive, its provider is not restoring, and both declared the port
 
 unfoldable pub isDeclaration : ℕ → Port → Bool → Declaration → Bool
-isDeclaration o p b d = eqb (d .owner) o && samePort (d .port) p && Bool·beq (d .provides) b
+isDeclaration o p b d = eqb (ownerIn d) o && samePort (declaredPort d) p && Bool·beq (d .provides) b
 
 abbrev pub declares : List Declaration → ℕ → Port → Bool → Bool
 declares ds o p b = any (isDeclaration o p b) ds
 
 -- `installs` tells which identities are present and not Inactive, `serves` which of those are not restoring
 abbrev pub linkTests : (ℕ → Bool) → (ℕ → Bool) → List Declaration → Link → List Bool
-linkTests installs serves ds l = let c = l .consumer in let o = l .binding .provider in let p = portOf (l .binding) in installs c ∷ serves o ∷ declares ds c p false ∷ declares ds o p true ∷ []
+linkTests installs serves ds l = let c = consumerIn l in let o = providerIn l in let p = portIn l in installs c ∷ serves o ∷ declares ds c p false ∷ declares ds o p true ∷ []
 
 unfoldable pub linkOk : (ℕ → Bool) → (ℕ → Bool) → List Declaration → Link → Bool
 linkOk installs serves ds l = l .live ⇒ conj (linkTests installs serves ds l)
@@ -56,7 +56,7 @@ linkOk installs serves ds l = l .live ⇒ conj (linkTests installs serves ds l)
 
 -- of a link and one that is not earlier: the first's provider is not the second's consumer
 unfoldable pub apart : Link → Link → Bool
-apart l m = not (l .live && m .live && eqb (l .binding .provider) (m .consumer))
+apart l m = not (l .live && m .live && eqb (providerIn l) (consumerIn m))
 
 abbrev pub ordered : List Link → Bool
 ordered ls = onward apart ls
@@ -64,19 +64,22 @@ ordered ls = onward apart ls
 -- ---- 6: each dependency of a present node that isn't Inactive has a live link of that consumer with that port
 
 unfoldable pub linksTo : ℕ → Port → Link → Bool
-linksTo o p l = l .live && eqb (l .consumer) o && samePort (portOf (l .binding)) p
+linksTo o p l = l .live && eqb (consumerIn l) o && samePort (portIn l) p
 
 abbrev pub needTests : (ℕ → Bool) → Declaration → List Bool
-needTests installs d = not (d .provides) ∷ installs (d .owner) ∷ []
+needTests installs d = not (d .provides) ∷ installs (ownerIn d) ∷ []
 
 unfoldable pub isCovered : (ℕ → Bool) → List Link → Declaration → Bool
-isCovered installs ls d = conj (needTests installs d) ⇒ any (linksTo (d .owner) (d .port)) ls
+isCovered installs ls d = conj (needTests installs d) ⇒ any (linksTo (ownerIn d) (declaredPort d)) ls
 
 -- ---- the whole
 
 -- the first five points, as lib.rs groups them
 abbrev pub safetyTests : Tables → List Bool
-safetyTests T = let ns = T .nodes in let ds = T .declarations in let ls = T .links in all (hasOwner (length ns)) ds ∷ all (λ d. all (sameOwner (present ns) d) ds) ds ∷ allAt (nodeOk ns) 0 ns ∷ all (linkOk (installed ns) (serving ns) ds) ls ∷ ordered ls ∷ []
+safetyTests T =
+    let ns = T .nodes in
+    let ds = T .declarations in
+    all (hasOwner (length ns)) ds ∷ all (λ d. all (sameOwner (present ns) d) ds) ds ∷ allAt (nodeOk ns) 0 ns ∷ all (linkOk (installed ns) (serving ns) ds) (T .links) ∷ ordered (T .links) ∷ []
 
 unfoldable pub safetyWf : Tables → Bool
 safetyWf T = conj (safetyTests T)

@@ -12,6 +12,10 @@ use Rattle.model.specs.Tables.{Tables, nodeAt}
 abbrev pub RefusedForSpace : Sizes → Tables → ℕ → Type 0
 RefusedForSpace S T id = ((step S T (Command.begin id)) .reply ≡ Reply.refused Error.Capacity) × ((nodeAt (T .nodes) id) .generation ≡ lastGeneration → ⊥)
 
+-- compact_bindings, and then begin is accepted
+abbrev pub BegunAfterCompaction : Sizes → Tables → ℕ → Type 0
+BegunAfterCompaction S T id = (step S ((step S T Command.compactBindings) .tables) (Command.begin id)) .reply ≡ Reply.done
+
 -- it needs as many links as declarations among the sizes
 abbrev pub SpaceAfterCompaction : Type 0
-SpaceAfterCompaction = (S : Sizes) → S .declarations ≤ S .links → (cs : List Command) (id : ℕ) → RefusedForSpace S (run S cs) id → (step S ((step S (run S cs) Command.compactBindings) .tables) (Command.begin id)) .reply ≡ Reply.done
+SpaceAfterCompaction = (S : Sizes) → S .declarations ≤ S .links → (cs : List Command) (id : ℕ) → RefusedForSpace S (run S cs) id → BegunAfterCompaction S (run S cs) id

@@ -3,9 +3,9 @@ use mathlib.Core.Bool.{Bool, not}
 use mathlib.Core.List.{List, []}
 use Prim.Native.Nat.{ℕ}
 use lib.ListN.{getD, set}
-use Rattle.model.specs.declared.Declaration.{Declaration}
-use Rattle.model.specs.declared.Link.{Link}
-use Rattle.model.specs.declared.Node.{Node}
+use Rattle.model.specs.declared.records.Declaration.{Declaration}
+use Rattle.model.specs.declared.records.Link.{Link}
+use Rattle.model.specs.declared.records.Node.{Node}
 use Rattle.model.specs.Records.{blankNode, isInactive, isInstalled, isProviding, isServing}
 
 pub record Tables : Type 0 where

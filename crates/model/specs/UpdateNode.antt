@@ -4,10 +4,11 @@ use mathlib.Core.List.{List, [], _++_, _∷_}
 use Prim.Native.Nat.{ℕ}
 use lib.Dec.{eqb}
 use Rattle.model.specs.declared.Error.{Error}
-use Rattle.model.specs.declared.Link.{Link}
-use Rattle.model.specs.declared.Node.{Node}
+use Rattle.model.specs.declared.records.Link.{Link}
+use Rattle.model.specs.declared.records.Node.{Node}
 use Rattle.model.specs.Lists.{any}
-use Rattle.model.specs.Records.{isChildOf, isConsistent, isInactive}
+use Rattle.model.specs.Records.{consumerIn, isChildOf, isConsistent, isInactive, parentIn, providerIn}
+use Rattle.model.specs.Refusals.{Tests}
 use Rattle.model.specs.Soundness.{parentOk}
 use Rattle.model.specs.Tables.{Tables, present}
 
@@ -17,12 +18,17 @@ idle n = not (n .present) || isInactive (n .phase)
 
 -- a live link that this node, written for this identity, would leave without a consumer or a provider
 unfoldable pub blocks : ℕ → Node → Link → Bool
-blocks id n l = l .live && (eqb (l .consumer) id && idle n || eqb (l .binding .provider) id && (idle n || n .restoring))
+blocks id n l = l .live && (eqb (consumerIn l) id && idle n || eqb (providerIn l) id && (idle n || n .restoring))
 
 -- of the nodes: 1 not present, 2 inconsistent new node, 1 parent, 8 a present child of a node that goes
-abbrev pub updateNodeTests : List Node → ℕ → Node → List (Bool × Error)
-updateNodeTests ns id n = (not (present ns id), Error.Unknown) ∷ (not (isConsistent n), Error.InvalidState) ∷ (n .present && not (parentOk ns id (n .parent)), Error.Unknown) ∷ (not (n .present) && any (isChildOf id) ns, Error.Children) ∷ []
+abbrev pub updateNodeTests : List Node → ℕ → Node → Tests
+updateNodeTests ns id n =
+    (not (present ns id), Error.Unknown)
+    ∷ (not (isConsistent n), Error.InvalidState)
+    ∷ (n .present && not (parentOk ns id (parentIn n)), Error.Unknown)
+    ∷ (not (n .present) && any (isChildOf id) ns, Error.Children)
+    ∷ []
 
 -- then 7, a live link in the way
-abbrev pub updateTests : Tables → ℕ → Node → List (Bool × Error)
+abbrev pub updateTests : Tables → ℕ → Node → Tests
 updateTests T id n = updateNodeTests (T .nodes) id n ++ ((any (blocks id n) (T .links), Error.Relied) ∷ [])

@@ -3,11 +3,52 @@ ghost use mathlib.Core.Path.{_≡_};
 ghost use Rattle.model.specs.Answers.{checked};
 ghost use Rattle.model.specs.Interface.{declareNodeTests, configureNodeTests};
 ghost use Rattle.model.specs.Lifecycle.{beginNodeTests, loadingTests, runningTests, unloadingTests, restoringTests, retiredTests};
+ghost use Rattle.model.specs.Rows.{nodeTests, presentTests};
 ghost use Rattle.model.specs.UpdateNode.{blocks};
 use crate::Answer;
 use crate::Error;
 use crate::Link;
 use crate::Node;
+
+// The rows of document 01's table, by what they test of the component's node.
+pub enum Row {
+    Present,
+    Declare,
+    Configure,
+    Begin,
+    Loading,
+    Running,
+    Unloading,
+    Restoring,
+    Retired,
+}
+
+// The tests of this row.
+pub fn check(row: Row, node: Node) -> Answer
+    ensures { λ r. ⌜ r ≡ checked (nodeTests row node) ⌝ }
+{
+    match row {
+        Row::Present => check_present(node),
+        Row::Declare => check_declare(node),
+        Row::Configure => check_configure(node),
+        Row::Begin => check_begin(node),
+        Row::Loading => check_loading(node),
+        Row::Running => check_running(node),
+        Row::Unloading => check_unloading(node),
+        Row::Restoring => check_restoring(node),
+        Row::Retired => check_retired(node),
+    }
+}
+
+// release_provision and retire: present.
+pub fn check_present(node: Node) -> Answer
+    ensures { λ r. ⌜ r ≡ checked (presentTests node) ⌝ }
+{
+    if !node.present {
+        return Answer::Refused(Error::Unknown);
+    }
+    Answer::Done
+}
 
 // declare_provision: present, not retired, and Loading, Active or never begun.
 pub fn check_declare(node: Node) -> Answer
@@ -141,8 +182,7 @@ pub fn blocks(id: usize, node: Node, link: Link) -> bool
     let phase = node.phase;
     let inactive = crate::is_inactive(phase);
     let idle = !node.present | inactive;
-    let b = link.binding;
-    let consumes = (link.consumer == id) & idle;
-    let serves = (b.provider == id) & (idle | node.restoring);
+    let consumes = (crate::consumer_in(link) == id) & idle;
+    let serves = (crate::provider_in(link) == id) & (idle | node.restoring);
     link.live & (consumes | serves)
 }

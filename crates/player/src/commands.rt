@@ -16,12 +16,6 @@ pub struct Player {
     pub detail: u64,
 }
 
-// What adding a port to a pending list gives.
-struct Addition {
-    list: PortList,
-    answer: u8,
-}
-
 fn empty_list() -> PortList {
     let port = model::blank_port();
     let ports = [port; 32];
@@ -45,21 +39,19 @@ pub fn start() -> Player {
     }
 }
 
-// The port after the others, or 9 if there are 32.
-fn add(mut list: PortList, port: Port) -> Addition {
+// What adding a port answers: 9 if there are 32.
+fn addition(list: PortList) -> u8 {
+    if 32 <= list.count { 9 } else { 0 }
+}
+
+// The port after the others; a list of 32 stays.
+fn added(mut list: PortList, port: Port) -> PortList {
     let count = list.count;
-    if 32 <= count {
-        return Addition {
-            list: list,
-            answer: 9,
-        };
+    if count < 32 {
+        list.ports[count] = port;
+        list.count = count + 1;
     }
-    list.ports[count] = port;
-    list.count = count + 1;
-    Addition {
-        list: list,
-        answer: 0,
-    }
+    list
 }
 
 fn issued(answer: InsertAnswer) -> u64 {
@@ -101,14 +93,12 @@ pub fn play(player: Player, log: &[u8], answers: &mut [u8]) -> Player {
         let mut answer = 0;
         match byte {
             0x01 => {
-                let added = add(dependencies, log::port_at(operands, 0));
-                dependencies = added.list;
-                answer = added.answer;
+                answer = addition(dependencies);
+                dependencies = added(dependencies, log::port_at(operands, 0));
             }
             0x02 => {
-                let added = add(provisions, log::port_at(operands, 0));
-                provisions = added.list;
-                answer = added.answer;
+                answer = addition(provisions);
+                provisions = added(provisions, log::port_at(operands, 0));
             }
             0x03 => {
                 let parent = log::parent(operands);

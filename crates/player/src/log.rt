@@ -37,25 +37,13 @@ pub fn parent(operands: &[u8]) -> Parent {
     }
 }
 
-// The byte i places after this place, 0 past the end.
-fn byte_after(bytes: &[u8], place: usize, i: usize) -> u8 {
-    if bytes.len() <= place {
-        return 0;
-    }
-    if i < bytes.len() - place {
-        bytes[place + i]
-    } else {
-        0
-    }
-}
-
 // Eight bytes from this place, least first.
 fn word_at(bytes: &[u8], place: usize) -> u64 {
     let mut word = 0;
     let mut i = 8;
     while 0 < i {
         i -= 1;
-        word = (word << 8) | (byte_after(bytes, place, i) as u64);
+        word = (word << 8) | (byte_at(bytes, std::num::wrapping_add_usize(place, i)) as u64);
     }
     word
 }

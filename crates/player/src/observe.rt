@@ -12,6 +12,9 @@ use model::Resolution;
 use scans::CommittedBindings;
 use scans::Identities;
 use scans::TargetBindings;
+use sizes::DECLARATIONS;
+use sizes::IDENTITIES;
+use sizes::LINKS;
 
 fn phase(out: &mut [u8], at: usize, answer: OptionPhase) -> usize {
     match answer {
@@ -37,13 +40,13 @@ fn resolution(out: &mut [u8], at: usize, answer: Resolution) -> usize {
 fn binding(out: &mut [u8], at: usize, binding: Binding) -> usize {
     let at = put::word(out, at, binding.key);
     let at = put::word(out, at, binding.realm);
-    put::identity(out, at, binding.provider)
+    put::word(out, at, binding.provider as u64)
 }
 
 fn identities(out: &mut [u8], at: usize, list: Identities) -> usize {
     let ids = list.ids;
     let count = list.count;
-    let end = scans::at_most(count, 64);
+    let end = loops::at_most(count, IDENTITIES);
     let mut at = put::small(out, at, count);
     let mut i = 0;
     while i < end {
@@ -56,7 +59,7 @@ fn identities(out: &mut [u8], at: usize, list: Identities) -> usize {
 fn target(out: &mut [u8], at: usize, answer: TargetBindings) -> usize {
     let bindings = answer.bindings;
     let count = answer.count;
-    let end = scans::at_most(count, 256);
+    let end = loops::at_most(count, DECLARATIONS);
     let at = put::flag(out, at, answer.there);
     let mut at = put::half(out, at, count);
     let mut i = 0;
@@ -70,7 +73,7 @@ fn target(out: &mut [u8], at: usize, answer: TargetBindings) -> usize {
 fn committed(out: &mut [u8], at: usize, answer: CommittedBindings) -> usize {
     let bindings = answer.bindings;
     let count = answer.count;
-    let end = scans::at_most(count, 512);
+    let end = loops::at_most(count, LINKS);
     let mut at = put::half(out, at, count);
     let mut i = 0;
     while i < end {
@@ -133,15 +136,7 @@ fn answers(out: &mut [u8], at: usize, player: Player, question: &[u8]) -> usize 
     checks(out, at, player, question)
 }
 
-// Whether the command of this index has a question: it is one in every, and its 17 bytes are there.
-fn has_question(questions: &[u8], every: usize, index: usize) -> bool {
-    if every == 0 {
-        return false;
-    }
-    (index % every == 0) & (index < questions.len() / 17)
-}
-
-// The answers to the question of this index, or 0 if it has none.
+// The answers to the question of this index, or 0 if it has none: it is one in every, and its 17 bytes are there.
 pub fn asked(
     out: &mut [u8],
     at: usize,
@@ -150,7 +145,10 @@ pub fn asked(
     every: usize,
     index: usize,
 ) -> usize {
-    if has_question(questions, every, index) {
+    if every == 0 {
+        return put::byte(out, at, 0);
+    }
+    if index % every == 0 {
         if index < questions.len() / 17 {
             let question = &questions[index * 17..index * 17 + 17];
             return answers(out, at, player, question);

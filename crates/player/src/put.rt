@@ -49,10 +49,6 @@ pub fn word(out: &mut [u8], at: usize, number: u64) -> usize {
     bytes(out, at, number, 8)
 }
 
-pub fn identity(out: &mut [u8], at: usize, id: usize) -> usize {
-    bytes(out, at, id as u64, 8)
-}
-
 // An identity or a number that may be missing: 1 and it, or 0 and 0.
 pub fn some(out: &mut [u8], at: usize, number: u64) -> usize {
     let at = byte(out, at, 1);

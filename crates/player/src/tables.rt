@@ -7,6 +7,9 @@ use model::Link;
 use model::Node;
 use model::Parent;
 use model::Phase;
+use sizes::DECLARATIONS;
+use sizes::IDENTITIES;
+use sizes::LINKS;
 
 pub fn phase_number(phase: Phase) -> u8 {
     match phase {
@@ -26,7 +29,7 @@ fn parent(out: &mut [u8], at: usize, parent: Parent) -> usize {
 
 fn node(out: &mut [u8], at: usize, node: Node) -> usize {
     let phase = node.phase;
-    let above = node.parent;
+    let above = model::parent_in(node);
     let at = put::flag(out, at, node.present);
     let at = put::flag(out, at, node.retired);
     let at = put::byte(out, at, phase_number(phase));
@@ -36,25 +39,25 @@ fn node(out: &mut [u8], at: usize, node: Node) -> usize {
 }
 
 fn declaration(out: &mut [u8], at: usize, declaration: Declaration) -> usize {
-    let port = declaration.port;
-    let at = put::identity(out, at, declaration.owner);
+    let port = model::declared_port(declaration);
+    let at = put::word(out, at, model::owner_in(declaration) as u64);
     let at = put::word(out, at, port.key);
     let at = put::word(out, at, port.realm);
     put::flag(out, at, declaration.provides)
 }
 
 fn link(out: &mut [u8], at: usize, link: Link) -> usize {
-    let binding = link.binding;
-    let at = put::identity(out, at, link.consumer);
+    let binding = model::binding_in(link);
+    let at = put::word(out, at, model::consumer_in(link) as u64);
     let at = put::word(out, at, binding.key);
     let at = put::word(out, at, binding.realm);
-    let at = put::identity(out, at, binding.provider);
+    let at = put::word(out, at, binding.provider as u64);
     put::flag(out, at, link.live)
 }
 
 fn nodes(out: &mut [u8], at: usize, kernel: Kernel) -> usize {
     let nodes = kernel.nodes;
-    let end = scans::at_most(kernel.node_count, 64);
+    let end = loops::at_most(kernel.node_count, IDENTITIES);
     let mut at = at;
     let mut i = 0;
     while i < end {
@@ -66,7 +69,7 @@ fn nodes(out: &mut [u8], at: usize, kernel: Kernel) -> usize {
 
 fn declarations(out: &mut [u8], at: usize, kernel: Kernel) -> usize {
     let declarations = kernel.declarations;
-    let end = scans::at_most(kernel.declaration_count, 256);
+    let end = loops::at_most(kernel.declaration_count, DECLARATIONS);
     let mut at = at;
     let mut i = 0;
     while i < end {
@@ -78,7 +81,7 @@ fn declarations(out: &mut [u8], at: usize, kernel: Kernel) -> usize {
 
 fn links(out: &mut [u8], at: usize, kernel: Kernel) -> usize {
     let links = kernel.links;
-    let end = scans::at_most(kernel.link_count, 512);
+    let end = loops::at_most(kernel.link_count, LINKS);
     let mut at = at;
     let mut i = 0;
     while i < end {

@@ -1,14 +1,35 @@
 // Plays logs of commands: an answer on a line for each command, then the tables.
-mod output;
-mod records;
-
 use libc::STDERR_FILENO;
 use libc::STDIN_FILENO;
+use text::end;
+use text::field;
+use text::number;
 
 fn cannot_read(name: &[u8]) {
     io::write_all(STDERR_FILENO, b"replay: cannot read ");
     io::write_all(STDERR_FILENO, name);
     io::write_all(STDERR_FILENO, b"\n");
+}
+
+// An answer's count from 0 and its number.
+fn answer(out: &mut [u8], at: usize, index: usize, answer: u8) -> usize {
+    let at = number(out, at, index as u64);
+    let at = field(out, at, answer as u64);
+    end(out, at)
+}
+
+// A line for each answer.
+fn answers(out: &mut [u8], answers: &[u8], count: usize) -> usize {
+    let mut at = 0;
+    let mut i = 0;
+    while i < answers.len() {
+        if count <= i {
+            break;
+        }
+        at = answer(out, at, i, answers[i]);
+        i += 1;
+    }
+    at
 }
 
 // Plays the first 65,536 bytes of what is open.
@@ -20,11 +41,13 @@ fn replay(fd: i32, name: &[u8]) {
         cannot_read(name);
         return;
     }
-    let mut answers = io::large_buffer();
-    let played = player::play(player::start(), &log[..n], &mut answers);
+    let mut given = io::large_buffer();
+    let played = player::play(player::start(), &log[..n], &mut given);
+    let kernel = played.kernel;
     let mut out = io::large_buffer();
-    let at = output::answers(&mut out, &answers, played.answered);
-    records::tables(&mut out, at, played.kernel);
+    let at = answers(&mut out, &given, played.answered);
+    let at = text::records::tables(&mut out, at, kernel);
+    text::flush(&out, at);
 }
 
 // A line with the name, then its log.

@@ -1,4 +1,1 @@
-pub mod Columns
 pub mod Answers
-pub mod Chains
-pub mod Marks

@@ -5,17 +5,21 @@ ghost use lib.ListN.{take};
 ghost use Rattle.model.specs.Lists.{any};
 ghost use Rattle.model.specs.Soundness.{isDeclaration};
 ghost use Rattle.model.specs.Interface.{listed, distinct, takenBy, reliesOn};
-ghost use Rattle.scans.specs.Columns.{flag};
-use crate::limits::at_most;
+ghost use Rattle.loops.specs.Columns.{flag};
+ghost use Rattle.sizes.specs.Sizes.{IDENTITIES};
 use crate::limits::flag_at;
+use loops::at_most;
 use model::Declaration;
 use model::Link;
 use model::Port;
 use model::PortList;
+use sizes::DECLARATIONS;
+use sizes::IDENTITIES;
+use sizes::LINKS;
 
 // Whether the table has a declaration of this owner and port, a provision or a dependency.
 pub fn declares_in(
-    declarations: [Declaration; 256],
+    declarations: [Declaration; DECLARATIONS],
     count: usize,
     owner: usize,
     port: Port,
@@ -23,13 +27,11 @@ pub fn declares_in(
 ) -> bool
     ensures { λ r. ⌜ r ≡ any (isDeclaration owner port provision) (take count declarations) ⌝ }
 {
-    let end = at_most(count, 256);
+    let end = at_most(count, DECLARATIONS);
     let mut i = 0;
     while i < end {
         let d = declarations[i];
-        let p = d.port;
-        let same = model::same_port(p, port);
-        if (d.owner == owner) & same & (d.provides == provision) {
+        if model::is_declaration(owner, port, provision, d) {
             return true;
         }
         i += 1;
@@ -37,24 +39,31 @@ pub fn declares_in(
     false
 }
 
+// Whether this is a provision of the port by a present owner; present tells who is.
+fn taken_by(present: &[bool; IDENTITIES], port: Port, d: Declaration) -> bool
+    ensures { λ r. ⌜ r ≡ takenBy (flag IDENTITIES (now (present .entry))) port d ⌝ }
+{
+    let declared = model::declared_port(d);
+    let owner = model::owner_in(d);
+    let same = model::same_port(declared, port);
+    let here = flag_at(present, owner);
+    d.provides & same & here
+}
+
 // Whether a present owner below the count provides the port; present tells who is.
 pub fn taken_in(
-    declarations: [Declaration; 256],
+    declarations: [Declaration; DECLARATIONS],
     count: usize,
-    present: [bool; 64],
+    present: [bool; IDENTITIES],
     port: Port,
 ) -> bool
-    ensures { λ r. ⌜ r ≡ any (takenBy (flag 64 present) port) (take count declarations) ⌝ }
+    ensures { λ r. ⌜ r ≡ any (takenBy (flag IDENTITIES present) port) (take count declarations) ⌝ }
 {
-    let end = at_most(count, 256);
+    let end = at_most(count, DECLARATIONS);
     let mut i = 0;
     while i < end {
         let d = declarations[i];
-        let p = d.port;
-        let o = d.owner;
-        let same = model::same_port(p, port);
-        let here = flag_at(&present, o);
-        if d.provides & same & here {
+        if taken_by(&present, port, d) {
             return true;
         }
         i += 1;
@@ -63,16 +72,14 @@ pub fn taken_in(
 }
 
 // Whether a live link below the count has this provider and port.
-pub fn relies_on(links: [Link; 512], count: usize, id: usize, port: Port) -> bool
+pub fn relies_on(links: [Link; LINKS], count: usize, id: usize, port: Port) -> bool
     ensures { λ r. ⌜ r ≡ any (reliesOn id port) (take count links) ⌝ }
 {
-    let end = at_most(count, 512);
+    let end = at_most(count, LINKS);
     let mut i = 0;
     while i < end {
         let l = links[i];
-        let b = l.binding;
-        let same = (b.key == port.key) & (b.realm == port.realm);
-        if l.live & (b.provider == id) & same {
+        if model::relies_on(id, port, l) {
             return true;
         }
         i += 1;
@@ -80,44 +87,19 @@ pub fn relies_on(links: [Link; 512], count: usize, id: usize, port: Port) -> boo
     false
 }
 
-// Whether a list has no port twice.
-pub fn distinct_ports(list: PortList) -> bool
-    ensures { λ r. ⌜ r ≡ distinct (listed list) ⌝ }
-{
-    let count = list.count;
-    let ports = list.ports;
-    let end = at_most(count, 32);
-    let mut ok = true;
-    let mut i = 0;
-    'scan: while i < end {
-        let p = ports[i];
-        let mut j = i + 1;
-        while j < end {
-            let q = ports[j];
-            if model::same_port(p, q) {
-                ok = false;
-                break 'scan;
-            }
-            j += 1;
-        }
-        i += 1;
-    }
-    ok
-}
-
 // Whether a list of provisions has no port twice and no port that a present owner provides: the scan ends at the first repeat or clash.
 pub fn check_provisions(
     list: PortList,
-    declarations: [Declaration; 256],
+    declarations: [Declaration; DECLARATIONS],
     declared: usize,
-    present: [bool; 64],
+    present: [bool; IDENTITIES],
 ) -> bool
-    ensures { λ r. ⌜ r ≡ distinct (listed list) && not (any (λ p. any (takenBy (flag 64 present) p) (take declared declarations)) (listed list)) ⌝ }
+    ensures { λ r. ⌜ r ≡ distinct (listed list) && not (any (λ p. any (takenBy (flag IDENTITIES present) p) (take declared declarations)) (listed list)) ⌝ }
 {
     let count = list.count;
     let ports = list.ports;
     let end = at_most(count, 32);
-    let table = at_most(declared, 256);
+    let table = at_most(declared, DECLARATIONS);
     let mut ok = true;
     let mut i = 0;
     'scan: while i < end {
@@ -134,11 +116,7 @@ pub fn check_provisions(
         let mut k = 0;
         while k < table {
             let d = declarations[k];
-            let q = d.port;
-            let o = d.owner;
-            let same = model::same_port(q, p);
-            let here = flag_at(&present, o);
-            if d.provides & same & here {
+            if taken_by(&present, p, d) {
                 ok = false;
                 break 'scan;
             }

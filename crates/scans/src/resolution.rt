@@ -6,33 +6,37 @@ ghost use lib.ListN.{take};
 ghost use Rattle.model.specs.Records.{isProviding};
 ghost use Rattle.model.specs.Answers.{resolution};
 ghost use Rattle.model.specs.Resolution.{resolve, dependencyPorts, bindPorts, committed};
-ghost use Rattle.scans.specs.Columns.{declarationsOf, flag};
+ghost use Rattle.loops.specs.Columns.{declarationsOf, flag};
 ghost use Rattle.scans.specs.Answers.{targetBindings, committedBindings};
+ghost use Rattle.sizes.specs.Sizes.{DECLARATIONS, IDENTITIES};
 use crate::CommittedBindings;
 use crate::TargetBindings;
 use crate::columns::declaration_columns;
-use crate::limits::at_most;
 use crate::limits::flag_at;
 use crate::nodes::node_flags;
+use loops::at_most;
 use model::Declaration;
 use model::Link;
 use model::Node;
 use model::Port;
 use model::Resolution;
+use sizes::DECLARATIONS;
+use sizes::IDENTITIES;
+use sizes::LINKS;
 
 // The first owner in the columns that provides the port; providing tells who is present and Active.
 pub fn resolve_in(
-    owner: &[usize; 256],
-    key: &[u64; 256],
-    realm: &[u64; 256],
-    provides: &[bool; 256],
-    providing: &[bool; 64],
+    owner: &[usize; DECLARATIONS],
+    key: &[u64; DECLARATIONS],
+    realm: &[u64; DECLARATIONS],
+    provides: &[bool; DECLARATIONS],
+    providing: &[bool; IDENTITIES],
     count: usize,
     port: Port,
 ) -> Resolution
-    ensures { λ r. ⌜ r ≡ resolution (resolve (flag 64 (now (providing .entry))) (take count (declarationsOf 256 (now (owner .entry)) (now (key .entry)) (now (realm .entry)) (now (provides .entry)))) port) ⌝ }
+    ensures { λ r. ⌜ r ≡ resolution (resolve (flag IDENTITIES (now (providing .entry))) (take count (declarationsOf DECLARATIONS (now (owner .entry)) (now (key .entry)) (now (realm .entry)) (now (provides .entry)))) port) ⌝ }
 {
-    let end = at_most(count, 256);
+    let end = at_most(count, DECLARATIONS);
     let mut i = 0;
     while i < end {
         let o = owner[i];
@@ -48,19 +52,19 @@ pub fn resolve_in(
 
 // The binding of each dependency of a component, in declaration order; none if a port does not resolve.
 pub fn target_in(
-    owner: &[usize; 256],
-    key: &[u64; 256],
-    realm: &[u64; 256],
-    provides: &[bool; 256],
-    providing: &[bool; 64],
+    owner: &[usize; DECLARATIONS],
+    key: &[u64; DECLARATIONS],
+    realm: &[u64; DECLARATIONS],
+    provides: &[bool; DECLARATIONS],
+    providing: &[bool; IDENTITIES],
     count: usize,
     id: usize,
 ) -> TargetBindings
-    ensures { λ r. ⌜ r ≡ targetBindings (bindPorts (resolve (flag 64 (now (providing .entry))) (take count (declarationsOf 256 (now (owner .entry)) (now (key .entry)) (now (realm .entry)) (now (provides .entry))))) (dependencyPorts (take count (declarationsOf 256 (now (owner .entry)) (now (key .entry)) (now (realm .entry)) (now (provides .entry)))) id)) ⌝ }
+    ensures { λ r. ⌜ r ≡ targetBindings (bindPorts (resolve (flag IDENTITIES (now (providing .entry))) (take count (declarationsOf DECLARATIONS (now (owner .entry)) (now (key .entry)) (now (realm .entry)) (now (provides .entry))))) (dependencyPorts (take count (declarationsOf DECLARATIONS (now (owner .entry)) (now (key .entry)) (now (realm .entry)) (now (provides .entry)))) id)) ⌝ }
 {
-    let end = at_most(count, 256);
+    let end = at_most(count, DECLARATIONS);
     let blank = model::blank_binding();
-    let mut bindings = [blank; 256];
+    let mut bindings = [blank; DECLARATIONS];
     let mut n = 0;
     let mut i = 0;
     while i < end {
@@ -79,7 +83,7 @@ pub fn target_in(
                 port,
             ) else {
                 return TargetBindings {
-                    bindings: [blank; 256],
+                    bindings: [blank; DECLARATIONS],
                     count: 0,
                     there: false,
                 };
@@ -97,18 +101,18 @@ pub fn target_in(
 }
 
 // The bindings of a consumer's live links below the count, in link order.
-pub fn committed_in(links: [Link; 512], count: usize, id: usize) -> CommittedBindings
+pub fn committed_in(links: [Link; LINKS], count: usize, id: usize) -> CommittedBindings
     ensures { λ r. ⌜ r ≡ committedBindings (committed (take count links) id) ⌝ }
 {
-    let end = at_most(count, 512);
+    let end = at_most(count, LINKS);
     let blank = model::blank_binding();
-    let mut bindings = [blank; 512];
+    let mut bindings = [blank; LINKS];
     let mut n = 0;
     let mut i = 0;
     while i < end {
         let l = links[i];
-        if l.live & (l.consumer == id) {
-            let b = l.binding;
+        if model::is_live_link_of(id, l) {
+            let b = model::binding_in(l);
             bindings[n] = b;
             n += 1;
         }
@@ -126,7 +130,7 @@ pub fn no_target() -> TargetBindings
 {
     let blank = model::blank_binding();
     TargetBindings {
-        bindings: [blank; 256],
+        bindings: [blank; DECLARATIONS],
         count: 0,
         there: false,
     }
@@ -134,19 +138,19 @@ pub fn no_target() -> TargetBindings
 
 // resolve_in on tables: the first present and Active owner below the count that provides the port.
 pub fn resolve_table(
-    nodes: [Node; 64],
-    declarations: [Declaration; 256],
+    nodes: [Node; IDENTITIES],
+    declarations: [Declaration; DECLARATIONS],
     count: usize,
     port: Port,
 ) -> Resolution
-    ensures { λ r. ⌜ r ≡ resolution (resolve (flag 64 (map isProviding nodes)) (take count declarations) port) ⌝ }
+    ensures { λ r. ⌜ r ≡ resolution (resolve (flag IDENTITIES (map isProviding nodes)) (take count declarations) port) ⌝ }
 {
     let flags = node_flags(nodes);
     let providing = flags.providing;
-    let mut owner = [0usize; 256];
-    let mut key = [0u64; 256];
-    let mut realm = [0u64; 256];
-    let mut provides = [false; 256];
+    let mut owner = [0usize; DECLARATIONS];
+    let mut key = [0u64; DECLARATIONS];
+    let mut realm = [0u64; DECLARATIONS];
+    let mut provides = [false; DECLARATIONS];
     declaration_columns(
         declarations,
         count,
@@ -160,19 +164,19 @@ pub fn resolve_table(
 
 // target_in on tables: the binding of each dependency below the count of a component.
 pub fn target_table(
-    nodes: [Node; 64],
-    declarations: [Declaration; 256],
+    nodes: [Node; IDENTITIES],
+    declarations: [Declaration; DECLARATIONS],
     count: usize,
     id: usize,
 ) -> TargetBindings
-    ensures { λ r. ⌜ r ≡ targetBindings (bindPorts (resolve (flag 64 (map isProviding nodes)) (take count declarations)) (dependencyPorts (take count declarations) id)) ⌝ }
+    ensures { λ r. ⌜ r ≡ targetBindings (bindPorts (resolve (flag IDENTITIES (map isProviding nodes)) (take count declarations)) (dependencyPorts (take count declarations) id)) ⌝ }
 {
     let flags = node_flags(nodes);
     let providing = flags.providing;
-    let mut owner = [0usize; 256];
-    let mut key = [0u64; 256];
-    let mut realm = [0u64; 256];
-    let mut provides = [false; 256];
+    let mut owner = [0usize; DECLARATIONS];
+    let mut key = [0u64; DECLARATIONS];
+    let mut realm = [0u64; DECLARATIONS];
+    let mut provides = [false; DECLARATIONS];
     declaration_columns(
         declarations,
         count,

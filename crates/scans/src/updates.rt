@@ -4,19 +4,21 @@ ghost use lib.ListN.{take};
 ghost use Rattle.model.specs.Answers.{checked};
 ghost use Rattle.model.specs.UpdateNode.{updateNodeTests, updateTests};
 ghost use Rattle.scans.specs.Answers.{nodesAndLinks};
-use crate::limits::at_most;
 use crate::nodes::has_child;
 use crate::nodes::parent_ok;
+use loops::at_most;
 use model::Answer;
 use model::Error;
 use model::Link;
 use model::Node;
+use sizes::IDENTITIES;
+use sizes::LINKS;
 
 // What update_node tests of the nodes.
-pub fn check_update(nodes: [Node; 64], issued: usize, id: usize, node: Node) -> Answer
+pub fn check_update(nodes: [Node; IDENTITIES], issued: usize, id: usize, node: Node) -> Answer
     ensures { λ r. ⌜ r ≡ checked (updateNodeTests (take issued nodes) id node) ⌝ }
 {
-    let end = at_most(issued, 64);
+    let end = at_most(issued, IDENTITIES);
     if end <= id {
         return Answer::Refused(Error::Unknown);
     }
@@ -27,7 +29,7 @@ pub fn check_update(nodes: [Node; 64], issued: usize, id: usize, node: Node) -> 
     if !model::is_consistent(node) {
         return Answer::Refused(Error::InvalidState);
     }
-    let parent = node.parent;
+    let parent = model::parent_in(node);
     let fine = parent_ok(nodes, issued, id, parent);
     if node.present & !fine {
         return Answer::Refused(Error::Unknown);
@@ -41,9 +43,9 @@ pub fn check_update(nodes: [Node; 64], issued: usize, id: usize, node: Node) -> 
 
 // update_node: whether this node may be written for this identity. It answers only; the command that asks stores the node.
 pub fn update_node(
-    nodes: [Node; 64],
+    nodes: [Node; IDENTITIES],
     issued: usize,
-    links: [Link; 512],
+    links: [Link; LINKS],
     linked: usize,
     id: usize,
     node: Node,
@@ -54,7 +56,7 @@ pub fn update_node(
     if let Answer::Refused(error) = checked {
         return Answer::Refused(error);
     }
-    let end = at_most(linked, 512);
+    let end = at_most(linked, LINKS);
     let mut i = 0;
     while i < end {
         let l = links[i];

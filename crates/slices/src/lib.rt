@@ -7,8 +7,9 @@ ghost use Rattle.model.specs.Answers.{answer};
 ghost use Rattle.model.specs.Insertion.{checkInsert};
 ghost use Rattle.model.specs.Interface.{portList};
 ghost use Rattle.model.specs.Refusals.{Reply};
-ghost use Rattle.model.specs.Sizes.{controller, listLimit};
-ghost use Rattle.scans.specs.Answers.{AtMost};
+ghost use Rattle.model.specs.Sizes.{listLimit};
+ghost use Rattle.sizes.specs.Sizes.{sizes};
+ghost use Rattle.loops.specs.Limits.{AtMost};
 ghost use Rattle.slices.specs.Copies.{copyOf, withPort};
 use kernel::Kernel;
 use model::Answer;
@@ -21,7 +22,7 @@ use model::PortList;
 fn kept(count: usize) -> usize
     ensures { λ r. ⌜ AtMost count listLimit r ⌝ }
 {
-    scans::at_most(count, 32)
+    loops::at_most(count, 32)
 }
 
 // A list of blank ports with this count.
@@ -64,7 +65,7 @@ pub fn check_insert(
     dependencies: &[Port],
     provisions: &[Port],
 ) -> Answer
-    ensures { λ r. ⌜ r ≡ answer (ask kernel (Reply.refused Error.Damaged) (λ T. checkInsert controller T parent (portList (now (dependencies .entry))) (portList (now (provisions .entry))))) ⌝ }
+    ensures { λ r. ⌜ r ≡ answer (ask kernel (Reply.refused Error.Damaged) (λ T. checkInsert sizes T parent (portList (now (dependencies .entry))) (portList (now (provisions .entry))))) ⌝ }
 {
     let wanted = port_list(dependencies);
     let offered = port_list(provisions);

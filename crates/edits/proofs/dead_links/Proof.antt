@@ -1,12 +1,13 @@
 -- `edits::dead_links` meets its contract. The links before place i are dead for the consumer, the others are as they came in.
-use mathlib.Core.Path.{_∙_, _≡_, refl}
-use Prim.Native.Nat.{_-_, _≤_}
-use native.Mathlib.Omega.{arith}
-use borrow.Author.Needs.{needs}
-use Rattle.edits.proofs.Laws.Edit.{edited, edited-most, edited-next}
-use Rattle.model.specs.Records.{blankLink, deadFor}
-use Rattle.edits.proofs.dead_links.Statement.{statement}
+use mathlib.Core.{Path._∙_, Path._≡_, Path.refl}
+use Prim.Native.{Nat._-_, Nat._≤_}
+use native.Mathlib.{Omega.arith}
+use borrow.{Author.Needs.needs}
+use Rattle.loops.proofs.{Laws.Edit.edited, Laws.Edit.edited-most, Laws.Edit.edited-next}
+use Rattle.model.specs.{Records.blankLink, Records.deadFor}
+use Rattle.edits.proofs.{dead_links.Statement.statement}
 use Rattle.edits.proofs.dead_links.Tie as tie
+use Rattle.sizes.specs.{Sizes.LINKS}
 
 abbrev Inv-loop : tie.InvT-loop
 Inv-loop count id links₀ end i₀ links i = (i ≤ end) × (links ≡ edited (deadFor id) i links₀)
@@ -14,32 +15,8 @@ Inv-loop count id links₀ end i₀ links i = (i ≤ end) × (links ≡ edited (
 abbrev μ-loop : tie.MeasureT-loop
 μ-loop count id links₀ end i₀ links i = end - i
 
-at-most-requires : tie.Need-at-most-requires Inv-loop μ-loop
-at-most-requires c κs = search needs
-
 loop-holds : tie.Need-loop-holds Inv-loop μ-loop
 loop-holds c = (omega arith, refl)
-
-mul-l : tie.Need-mul-l Inv-loop μ-loop
-mul-l c = omega arith
-
-array-copy-out-l : tie.Need-array-copy-out-l Inv-loop μ-loop
-array-copy-out-l c = omega arith
-
-dead-for-requires : tie.Need-dead-for-requires Inv-loop μ-loop
-dead-for-requires c κs = search needs
-
-mul-links : tie.Need-mul-links Inv-loop μ-loop
-mul-links c = omega arith
-
-array-set-from-links : tie.Need-array-set-from-links Inv-loop μ-loop
-array-set-from-links c = omega arith
-
-add-i : tie.Need-add-i Inv-loop μ-loop
-add-i c = omega arith
-
-loop-less : tie.Need-loop-less Inv-loop μ-loop
-loop-less c = omega arith
 
 loop-again : tie.Need-loop-again Inv-loop μ-loop
 loop-again c =
@@ -53,7 +30,7 @@ returns c =
     let m = c .before .before .at-most in
     let a = c .before .before .before .args in
     let e : j .i ≡ m .result = omega arith in
-    (rw e at (j .inv .1)) ∙ edited-most (deadFor (a .id)) (a .t1) (a .count) 512 (m .result) (omega arith) (m .ensures)
+    (rw e at (j .inv .1)) ∙ edited-most (deadFor (a .id)) (a .t1) (a .count) LINKS (m .result) (omega arith) (m .ensures)
 
 pub dead-links-spec : {M : Type 1} → statement M
 dead-links-spec =
@@ -61,14 +38,14 @@ dead-links-spec =
     (tie.spec
     Inv-loop
     μ-loop
-    at-most-requires
+    (λ c κs. search needs)  -- at-most-requires
     loop-holds
-    mul-l
-    array-copy-out-l
-    dead-for-requires
-    mul-links
-    array-set-from-links
-    add-i
-    loop-less
+    (λ c. omega arith)  -- mul-l
+    (λ c. omega arith)  -- array-copy-out-l
+    (λ c κs. search needs)  -- dead-for-requires
+    (λ c. omega arith)  -- mul-links
+    (λ c. omega arith)  -- array-set-from-links
+    (λ c. omega arith)  -- add-i
+    (λ c. omega arith)  -- loop-less
     loop-again
     returns)

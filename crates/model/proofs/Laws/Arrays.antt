@@ -1,14 +1,10 @@
 -- A table in an array: reads, stores, and the blanks behind it.
-use mathlib.Core.Path.{_∙_, _≡_, ap, refl, sym}
-use mathlib.Core.Bool.{Bool, false, true}
-use mathlib.Core.List.{List, [], _++_, _∷_, map}
-use Prim.Native.Nat.{_+_, _-_, _<_, _≤_, suc, zero, ℕ}
-use native.Mathlib.Omega.{arith}
-use native.Mathlib.Decide.{decLt}
-use lib.ListN.{List·getD-eq-default, drop, getD, getD-replicate, length, length-append, length-drop, length-replicate, length-set, replicate, set, take, take-append-drop}
-use lib.Seq.{append-snoc, drop-append-seam, length-take-le, set-append-left, set-append-seam, take-append-seam}
-use Rattle.model.proofs.Laws.Booleans.{and-i, and-l, and-r}
-use Rattle.model.specs.Lists.{all, padded, places}
+use mathlib.Core.{Bool.Bool, Bool.false, Bool.true, List.List, List.[], List._++_, List._∷_, List.map, Path._∙_, Path._≡_, Path.ap, Path.refl, Path.sym}
+use Prim.Native.{Nat._+_, Nat._-_, Nat._<_, Nat._≤_, Nat.suc, Nat.zero, Nat.ℕ}
+use native.Mathlib.{Decide.decLt, Omega.arith}
+use lib.{ListN.List·getD-eq-default, ListN.drop, ListN.getD, ListN.getD-replicate, ListN.length, ListN.length-append, ListN.length-drop, ListN.length-replicate, ListN.length-set, ListN.replicate, ListN.set, ListN.take, ListN.take-append-drop, Seq.append-snoc, Seq.drop-append-seam, Seq.length-take-le, Seq.set-append-left, Seq.set-append-seam, Seq.take-append-seam}
+use Rattle.model.proofs.{Laws.Booleans.and-i, Laws.Booleans.and-l, Laws.Booleans.and-r}
+use Rattle.model.specs.{Lists.all, Lists.padded, Lists.places}
 
 module _ {A : Type 0} where
   pub length-padded : (n : ℕ) (d : A) (xs : List A) → length xs ≤ n → length (padded n d xs) ≡ n
@@ -80,4 +76,6 @@ places-none f d e i (suc n) = rw e (places-none f d e (suc i) n)
 pub places-padded : {A : Type 0} (f : A → Bool) (i n : ℕ) (d : A) → f d ≡ false → (xs : List A) → places f i (padded n d xs) ≡ places f i xs
 unfolding padded places
 places-padded f i n d e [] = places-none f d e i (n - 0)
-places-padded {A} f i n d e (x ∷ xs) = let g : n - suc (length xs) ≡ (n - 1) - length xs = omega arith in let ih : places f (suc i) (xs ++ replicate ((n - 1) - length xs) d) ≡ places f (suc i) xs = places-padded f (suc i) (n - 1) d e xs in rw (g, ih)
+places-padded {A} f i n d e (x ∷ xs) =
+    let g : n - suc (length xs) ≡ (n - 1) - length xs = omega arith in
+    rw (g, places-padded f (suc i) (n - 1) d e xs)

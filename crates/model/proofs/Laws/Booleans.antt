@@ -1,9 +1,6 @@
 -- What tests say: conjunctions, negations, implications, and lists of tests by place.
-use mathlib.Core.Path.{_∙_, _≡_, refl, sym}
-use mathlib.Core.Bool.{Bool, _&&_, _||_, false, not, true, true≢false}
-use mathlib.Core.List.{List, [], _∷_}
-use mathlib.Core.Logic.{_⊎_, inl, inr}
-use Rattle.model.specs.Lists.{_⇒_, andEach, conj}
+use mathlib.Core.{Bool.Bool, Bool._&&_, Bool._||_, Bool.false, Bool.not, Bool.true, Bool.true≢false, List.List, List.[], List._∷_, Logic._⊎_, Logic.inl, Logic.inr, Path._∙_, Path._≡_, Path.refl, Path.sym}
+use Rattle.model.specs.{Lists._⇒_, Lists.andEach, Lists.conj}
 
 pub and-l : (a b : Bool) → a && b ≡ true → a ≡ true
 and-l true b h = refl

@@ -1,13 +1,7 @@
 -- The entry test, piece by piece: a piece that fails fails the whole, and the pieces together are the whole.
-use mathlib.Core.Path.{_≡_, refl}
-use mathlib.Core.Bool.{Bool, _&&_, false, true}
-use lib.ListN.{length}
-use Rattle.model.proofs.Laws.Booleans.{Each, and-l, and-r, clash, each, of-each}
-use Rattle.model.specs.Layouts.{Layout, layoutTests, soundKernel, tablesOf}
-use Rattle.model.specs.Lists.{all, allAt, conj}
-use Rattle.model.specs.Sizes.{Sizes}
-use Rattle.model.specs.Soundness.{coverage, hasOwner, linkOk, nodeOk, ordered, safetyTests, safetyWf, sameOwner, wf}
-use Rattle.model.specs.Tables.{installed, present, serving}
+use mathlib.Core.{Bool.Bool, Bool.false, Bool.true, Path._≡_, Path.refl}
+use Rattle.model.proofs.{Laws.Booleans.Each, Laws.Booleans.and-l, Laws.Booleans.and-r, Laws.Booleans.clash, Laws.Booleans.each, Laws.Booleans.of-each}
+use Rattle.model.specs.{Layouts.Layout, Layouts.layoutTests, Layouts.soundKernel, Layouts.tablesOf, Lists.conj, Sizes.Sizes, Soundness.coverage, Soundness.safetyTests, Soundness.safetyWf, Soundness.wf}
 
 pub refuted : (b : Bool) → (b ≡ true → ⊥) → b ≡ false
 refuted true f = absurd (f refl)
@@ -30,6 +24,6 @@ pub unsound-by : (S : Sizes) (k : Layout) (b : Bool) → b ≡ false → (Pieces
 unsound-by S k b e f = refuted (soundKernel S k) (λ h. clash {A = ⊥} b (f (pieces S k h)) e)
 
 -- all pieces but the last: what is left is that
-pub sound-rest : (S : Sizes) (k : Layout) → Each (layoutTests S k) → all (hasOwner (length ((tablesOf k) .nodes))) ((tablesOf k) .declarations) ≡ true → all (λ d. all (sameOwner (present ((tablesOf k) .nodes)) d) ((tablesOf k) .declarations)) ((tablesOf k) .declarations) ≡ true → allAt (nodeOk ((tablesOf k) .nodes)) 0 ((tablesOf k) .nodes) ≡ true → all (linkOk (installed ((tablesOf k) .nodes)) (serving ((tablesOf k) .nodes)) ((tablesOf k) .declarations)) ((tablesOf k) .links) ≡ true → ordered ((tablesOf k) .links) ≡ true → soundKernel S k ≡ coverage (tablesOf k)
+pub sound-rest : (S : Sizes) (k : Layout) → Each (layoutTests S k) → Each (safetyTests (tablesOf k)) → soundKernel S k ≡ coverage (tablesOf k)
 unfolding soundKernel wf safetyWf
-sound-rest S k l a b c d e = rw (of-each (layoutTests S k) l, a, b, c, d, e)
+sound-rest S k l s = rw (of-each (layoutTests S k) l, of-each (safetyTests (tablesOf k)) s)

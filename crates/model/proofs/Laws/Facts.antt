@@ -1,34 +1,18 @@
 -- Soundness as facts by membership, and that the test says just these.
-use mathlib.Core.Path.{_≡_, refl, sym}
-use mathlib.Core.Bool.{Bool, Bool·beq, _&&_, false, not, true}
-use mathlib.Core.List.{List, List·Memᴰ, Memᴰ·cast}
-use mathlib.Core.Logic.{_⊎_, inl, inr}
-use Prim.Native.Nat.{_<_, _≤_, ℕ}
-use native.Mathlib.Omega.{arith}
-use native.Mathlib.Decide.{decLt}
-use native.Mathlib.Nat.{zero-add}
-use lib.Dec.{eqb}
-use lib.ListN.{List·getD-eq-default, getD, length}
-use borrow.Author.Tests.{eq-eqb, eqb-true, le-leb, leb-true, lt-ltb, ltb-true}
-use Rattle.model.specs.declared.Binding.{Binding}
-use Rattle.model.specs.declared.Declaration.{Declaration}
-use Rattle.model.specs.declared.Link.{Link}
-use Rattle.model.specs.declared.Node.{Node}
-use Rattle.model.specs.declared.Port.{Port}
-use Rattle.model.proofs.Laws.Booleans.{Each, and-i, and-l, and-r, cases, clash, each, f-not, imp-e, imp-i, not-t, of-each}
-use Rattle.model.proofs.Laws.Lists.{all-in, allAt-at, any-in, at-allAt, in-all, in-any}
-use Rattle.model.specs.Lists.{all, allAt, any, conj}
-use Rattle.model.specs.Records.{blankNode, consistencyTests, dependency, isConsistent, isInactive, isUnloading, portOf, provision, samePort}
-use Rattle.model.specs.Sizes.{Sizes}
-use Rattle.model.specs.Soundness.{coverage, declares, fits, hasOwner, isCovered, isDeclaration, linkOk, linkTests, linksTo, needTests, nodeOk, ordered, parentOk, rivalTests, safetyTests, safetyWf, sameOwner, sizeTests, sound, wf}
-use Rattle.model.specs.Tables.{Tables, installed, nodeAt, notInactive, present, serving}
+use mathlib.Core.{Bool.Bool, Bool.Bool·beq, Bool._&&_, Bool.false, Bool.not, Bool.true, List.List, List.List·Memᴰ, List.Memᴰ·cast, Logic._⊎_, Logic.inl, Logic.inr, Path._≡_, Path.refl, Path.sym}
+use Prim.Native.{Nat._<_, Nat._≤_, Nat.ℕ}
+use native.Mathlib.{Decide.decLt, Nat.zero-add, Omega.arith}
+use lib.{Dec.eqb, ListN.List·getD-eq-default, ListN.getD, ListN.length}
+use borrow.{Author.Tests.eq-eqb, Author.Tests.eqb-true, Author.Tests.le-leb, Author.Tests.leb-true, Author.Tests.lt-ltb, Author.Tests.ltb-true}
+use Rattle.model.specs.{Lists.all, Lists.allAt, Lists.any, Lists.conj, Records.bindingIn, Records.blankNode, Records.consistencyTests, Records.consumerIn, Records.declarationOf, Records.declaredPort, Records.dependency, Records.isConsistent, Records.isInactive, Records.isUnloading, Records.ownerIn, Records.parentIn, Records.portIn, Records.portOf, Records.providerIn, Records.provision, Records.samePort, Sizes.Sizes, Soundness.coverage, Soundness.declares, Soundness.fits, Soundness.hasOwner, Soundness.isCovered, Soundness.isDeclaration, Soundness.linkOk, Soundness.linkTests, Soundness.linksTo, Soundness.needTests, Soundness.nodeOk, Soundness.ordered, Soundness.parentOk, Soundness.rivalTests, Soundness.safetyTests, Soundness.safetyWf, Soundness.sameOwner, Soundness.sizeTests, Soundness.sound, Soundness.wf, Tables.Tables, Tables.installed, Tables.nodeAt, Tables.notInactive, Tables.present, Tables.serving, declared.Binding.Binding, declared.Port.Port, declared.records.Declaration.Declaration, declared.records.Link.Link, declared.records.Node.Node}
+use Rattle.model.proofs.{Laws.Booleans.Each, Laws.Booleans.and-i, Laws.Booleans.and-l, Laws.Booleans.and-r, Laws.Booleans.cases, Laws.Booleans.clash, Laws.Booleans.each, Laws.Booleans.f-not, Laws.Booleans.imp-e, Laws.Booleans.imp-i, Laws.Booleans.not-t, Laws.Booleans.of-each, Laws.Lists.all-in, Laws.Lists.allAt-at, Laws.Lists.any-in, Laws.Lists.at-allAt, Laws.Lists.in-all, Laws.Lists.in-any, Laws.Records.declaration-is, Laws.Records.port-is}
 
 pub record NodeOk (ns : List Node) (i : ℕ) (n : Node) : Type 0 where
   pub absent-inactive : n .present ≡ false → isInactive (n .phase) ≡ true
   pub absent-kept : n .present ≡ false → n .restoring ≡ false
   pub restoring-present : n .restoring ≡ true → n .present ≡ true
   pub restoring-unloading : n .restoring ≡ true → isUnloading (n .phase) ≡ true
-  pub parent-ok : n .present ≡ true → parentOk ns i (n .parent) ≡ true
+  pub parent-ok : n .present ≡ true → parentOk ns i (parentIn n) ≡ true
 
 pub record LiveOk (ns : List Node) (ds : List Declaration) (c : ℕ) (b : Binding) : Type 0 where
   pub consumer-present : present ns c ≡ true
@@ -39,8 +23,21 @@ pub record LiveOk (ns : List Node) (ds : List Declaration) (c : ℕ) (b : Bindin
   pub needed : List·Memᴰ (dependency c (portOf b)) ds
   pub offered : List·Memᴰ (provision (b .provider) (portOf b)) ds
 
+-- a link, if live, is in order
+abbrev pub LinkOk : List Node → List Declaration → Link → Type 0
+LinkOk ns ds l = l .live ≡ true → LiveOk ns ds (consumerIn l) (bindingIn l)
+
 abbrev pub Unique : List Node → List Declaration → Type 0
-Unique ns ds = (d e : Declaration) → List·Memᴰ d ds → List·Memᴰ e ds → d .provides ≡ true → e .provides ≡ true → present ns (d .owner) ≡ true → present ns (e .owner) ≡ true → d .port ≡ e .port → d .owner ≡ e .owner
+Unique ns ds =
+    (d e : Declaration)
+    → List·Memᴰ d ds
+    → List·Memᴰ e ds
+    → d .provides ≡ true
+    → e .provides ≡ true
+    → present ns (ownerIn d) ≡ true
+    → present ns (ownerIn e) ≡ true
+    → declaredPort d ≡ declaredPort e
+    → ownerIn d ≡ ownerIn e
 
 -- lengths within the sizes
 pub record Fits (S : Sizes) (T : Tables) : Type 0 where
@@ -50,21 +47,27 @@ pub record Fits (S : Sizes) (T : Tables) : Type 0 where
 
 -- the points without the last
 pub record Safe (T : Tables) : Type 0 where
-  pub owners : (d : Declaration) → List·Memᴰ d (T .declarations) → d .owner < length (T .nodes)
+  pub owners : (d : Declaration) → List·Memᴰ d (T .declarations) → ownerIn d < length (T .nodes)
   pub unique : Unique (T .nodes) (T .declarations)
   pub nodes : (i : ℕ) → NodeOk (T .nodes) i (nodeAt (T .nodes) i)
-  pub live : (l : Link) → List·Memᴰ l (T .links) → l .live ≡ true → LiveOk (T .nodes) (T .declarations) (l .consumer) (l .binding)
+  pub live : (l : Link) → List·Memᴰ l (T .links) → LinkOk (T .nodes) (T .declarations) l
   pub order : ordered (T .links) ≡ true
 
 pub record Linked (ls : List Link) (o : ℕ) (p : Port) : Type 0 where
   pub link : Link
   pub among : List·Memᴰ link ls
   pub is-live : link .live ≡ true
-  pub of-consumer : link .consumer ≡ o
-  pub of-port : portOf (link .binding) ≡ p
+  pub of-consumer : consumerIn link ≡ o
+  pub of-port : portIn link ≡ p
 
 abbrev pub Covered : Tables → Type 0
-Covered T = (d : Declaration) → List·Memᴰ d (T .declarations) → d .provides ≡ false → present (T .nodes) (d .owner) ≡ true → notInactive (T .nodes) (d .owner) ≡ true → Linked (T .links) (d .owner) (d .port)
+Covered T =
+    (d : Declaration)
+    → List·Memᴰ d (T .declarations)
+    → d .provides ≡ false
+    → present (T .nodes) (ownerIn d) ≡ true
+    → notInactive (T .nodes) (ownerIn d) ≡ true
+    → Linked (T .links) (ownerIn d) (declaredPort d)
 
 pub record Sound (S : Sizes) (T : Tables) : Type 0 where
   pub sizes : Fits S T
@@ -77,7 +80,7 @@ pub same-port : (p q : Port) → samePort p q ≡ true → p ≡ q
 same-port p q h =
     let a : p .key ≡ q .key = eqb-true (p .key) (q .key) (and-l (eqb (p .key) (q .key)) (eqb (p .realm) (q .realm)) h) in
     let b : p .realm ≡ q .realm = eqb-true (p .realm) (q .realm) (and-r (eqb (p .key) (q .key)) (eqb (p .realm) (q .realm)) h) in
-    λ i. record { key = a i; realm = b i }
+    port-is a b
 
 pub port-same : (p : Port) → samePort p p ≡ true
 port-same p = and-i (eqb (p .key) (p .key)) (eqb (p .realm) (p .realm)) (eq-eqb (p .key) (p .key) refl) (eq-eqb (p .realm) (p .realm) refl)
@@ -92,24 +95,24 @@ beq-refl : (a : Bool) → Bool·beq a a ≡ true
 beq-refl true = refl
 beq-refl false = refl
 
-pub is-declaration : (o : ℕ) (p : Port) (b : Bool) (d : Declaration) → isDeclaration o p b d ≡ true → record { owner = o; port = p; provides = b } ≡ d
+pub is-declaration : (o : ℕ) (p : Port) (b : Bool) (d : Declaration) → isDeclaration o p b d ≡ true → declarationOf o b p ≡ d
 unfolding isDeclaration
 is-declaration o p b d h =
-    let h1 : eqb (d .owner) o && samePort (d .port) p ≡ true = and-l (eqb (d .owner) o && samePort (d .port) p) (Bool·beq (d .provides) b) h in
-    let x : d .owner ≡ o = eqb-true (d .owner) o (and-l (eqb (d .owner) o) (samePort (d .port) p) h1) in
-    let y : d .port ≡ p = same-port (d .port) p (and-r (eqb (d .owner) o) (samePort (d .port) p) h1) in
-    let z : d .provides ≡ b = beq-true (d .provides) b (and-r (eqb (d .owner) o && samePort (d .port) p) (Bool·beq (d .provides) b) h) in
-    sym (λ i. record { owner = x i; port = y i; provides = z i })
+    let h1 : eqb (ownerIn d) o && samePort (declaredPort d) p ≡ true = and-l (eqb (ownerIn d) o && samePort (declaredPort d) p) (Bool·beq (d .provides) b) h in
+    let x : ownerIn d ≡ o = eqb-true (ownerIn d) o (and-l (eqb (ownerIn d) o) (samePort (declaredPort d) p) h1) in
+    let y : declaredPort d ≡ p = same-port (declaredPort d) p (and-r (eqb (ownerIn d) o) (samePort (declaredPort d) p) h1) in
+    let z : d .provides ≡ b = beq-true (d .provides) b (and-r (eqb (ownerIn d) o && samePort (declaredPort d) p) (Bool·beq (d .provides) b) h) in
+    sym (declaration-is x y z)
 
-pub declaration-is : (o : ℕ) (p : Port) (b : Bool) → isDeclaration o p b (record { owner = o; port = p; provides = b }) ≡ true
+pub declaration-passes : (o : ℕ) (p : Port) (b : Bool) → isDeclaration o p b (declarationOf o b p) ≡ true
 unfolding isDeclaration
-declaration-is o p b = rw (eq-eqb o o refl, port-same p, beq-refl b)
+declaration-passes o p b = rw (eq-eqb o o refl, port-same p, beq-refl b)
 
-pub declares-in : (ds : List Declaration) (o : ℕ) (p : Port) (b : Bool) → declares ds o p b ≡ true → List·Memᴰ (record { owner = o; port = p; provides = b }) ds
+pub declares-in : (ds : List Declaration) (o : ℕ) (p : Port) (b : Bool) → declares ds o p b ≡ true → List·Memᴰ (declarationOf o b p) ds
 declares-in ds o p b h = let (d, m, q) = any-in (isDeclaration o p b) ds h in Memᴰ·cast (is-declaration o p b d q) m
 
-pub in-declares : (ds : List Declaration) (o : ℕ) (p : Port) (b : Bool) → List·Memᴰ (record { owner = o; port = p; provides = b }) ds → declares ds o p b ≡ true
-in-declares ds o p b m = in-any (isDeclaration o p b) m (declaration-is o p b)
+pub in-declares : (ds : List Declaration) (o : ℕ) (p : Port) (b : Bool) → List·Memᴰ (declarationOf o b p) ds → declares ds o p b ≡ true
+in-declares ds o p b m = in-any (isDeclaration o p b) m (declaration-passes o p b)
 
 -- ---- the parts of the test
 
@@ -122,43 +125,55 @@ node-of ns i n h =
       absent-kept = λ a. not-t (n .restoring) (imp-e (not (n .present)) (not (n .restoring)) (e .1 .0) (f-not (n .present) a));
       restoring-present = imp-e (n .restoring) (n .present) (e .1 .1 .0);
       restoring-unloading = imp-e (n .restoring) (isUnloading (n .phase)) (e .1 .1 .1 .0);
-      parent-ok = imp-e (n .present) (parentOk ns i (n .parent)) (and-r (isConsistent n) _ h);
+      parent-ok = imp-e (n .present) (parentOk ns i (parentIn n)) (and-r (isConsistent n) _ h);
     }
 
 pub of-node : (ns : List Node) (i : ℕ) (n : Node) → NodeOk ns i n → nodeOk ns i n ≡ true
 unfolding nodeOk
 of-node ns i n k =
+    let inactive = imp-i (not (n .present)) (isInactive (n .phase)) (λ a. k .absent-inactive (not-t (n .present) a)) in
+    let kept = imp-i (not (n .present)) (not (n .restoring)) (λ a. f-not (n .restoring) (k .absent-kept (not-t (n .present) a))) in
+    let there = imp-i (n .restoring) (n .present) (k .restoring-present) in
+    let unloading = imp-i (n .restoring) (isUnloading (n .phase)) (k .restoring-unloading) in
     and-i (isConsistent n) _
-    (of-each (consistencyTests n) (imp-i (not (n .present)) (isInactive (n .phase)) (λ a. k .absent-inactive (not-t (n .present) a)), (imp-i (not (n .present)) (not (n .restoring)) (λ a. f-not (n .restoring) (k .absent-kept (not-t (n .present) a))), (imp-i (n .restoring) (n .present) (k .restoring-present), (imp-i (n .restoring) (isUnloading (n .phase)) (k .restoring-unloading), tt)))))
-    (imp-i (n .present) (parentOk ns i (n .parent)) (k .parent-ok))
+    (of-each (consistencyTests n) (inactive, (kept, (there, (unloading, tt)))))
+    (imp-i (n .present) (parentOk ns i (parentIn n)) (k .parent-ok))
 
-pub live-of : (ns : List Node) (ds : List Declaration) (l : Link) → linkOk (installed ns) (serving ns) ds l ≡ true → l .live ≡ true → LiveOk ns ds (l .consumer) (l .binding)
+pub live-of : (ns : List Node) (ds : List Declaration) (l : Link) → linkOk (installed ns) (serving ns) ds l ≡ true → LinkOk ns ds l
 unfolding linkOk
 live-of ns ds l h v =
     let e : Each (linkTests (installed ns) (serving ns) ds l) = each (linkTests (installed ns) (serving ns) ds l) (imp-e (l .live) _ h v) in
-    let i : installed ns (l .binding .provider) ≡ true = and-l (installed ns (l .binding .provider)) _ (e .1 .0) in
+    let i : installed ns (providerIn l) ≡ true = and-l (installed ns (providerIn l)) _ (e .1 .0) in
     record {
-      consumer-present = and-l (present ns (l .consumer)) _ (e .0);
-      consumer-installed = and-r (present ns (l .consumer)) _ (e .0);
-      provider-present = and-l (present ns (l .binding .provider)) _ i;
-      provider-installed = and-r (present ns (l .binding .provider)) _ i;
-      provider-kept = not-t _ (and-r (installed ns (l .binding .provider)) _ (e .1 .0));
+      consumer-present = and-l (present ns (consumerIn l)) _ (e .0);
+      consumer-installed = and-r (present ns (consumerIn l)) _ (e .0);
+      provider-present = and-l (present ns (providerIn l)) _ i;
+      provider-installed = and-r (present ns (providerIn l)) _ i;
+      provider-kept = not-t _ (and-r (installed ns (providerIn l)) _ (e .1 .0));
       needed = declares-in ds _ _ _ (e .1 .1 .0);
       offered = declares-in ds _ _ _ (e .1 .1 .1 .0);
     }
 
-pub of-live : (ns : List Node) (ds : List Declaration) (l : Link) → (l .live ≡ true → LiveOk ns ds (l .consumer) (l .binding)) → linkOk (installed ns) (serving ns) ds l ≡ true
+pub of-live : (ns : List Node) (ds : List Declaration) (l : Link) → LinkOk ns ds l → linkOk (installed ns) (serving ns) ds l ≡ true
 unfolding linkOk
 of-live ns ds l f = imp-i (l .live) _ (λ v.
-    let k : LiveOk ns ds (l .consumer) (l .binding) = f v in
-    of-each (linkTests (installed ns) (serving ns) ds l) (and-i (present ns (l .consumer)) _ (k .consumer-present) (k .consumer-installed), (and-i (installed ns (l .binding .provider)) _ (and-i (present ns (l .binding .provider)) _ (k .provider-present) (k .provider-installed)) (f-not _ (k .provider-kept)), (in-declares ds _ _ _ (k .needed), (in-declares ds _ _ _ (k .offered), tt)))))
+    let k : LiveOk ns ds (consumerIn l) (bindingIn l) = f v in
+    let consumer = and-i (present ns (consumerIn l)) _ (k .consumer-present) (k .consumer-installed) in
+    let provider = and-i (installed ns (providerIn l)) _ (and-i (present ns (providerIn l)) _ (k .provider-present) (k .provider-installed)) (f-not _ (k .provider-kept)) in
+    of-each (linkTests (installed ns) (serving ns) ds l) (consumer, (provider, (in-declares ds _ _ _ (k .needed), (in-declares ds _ _ _ (k .offered), tt)))))
 
 pub linked-of : (ls : List Link) (o : ℕ) (p : Port) → any (linksTo o p) ls ≡ true → Linked ls o p
 unfolding linksTo
 linked-of ls o p h =
     let (l, m, q) = any-in (linksTo o p) ls h in
-    let q1 : l .live && eqb (l .consumer) o ≡ true = and-l _ (samePort (portOf (l .binding)) p) q in
-    record { link = l; among = m; is-live = and-l (l .live) (eqb (l .consumer) o) q1; of-consumer = eqb-true _ _ (and-r (l .live) (eqb (l .consumer) o) q1); of-port = same-port _ _ (and-r (l .live && eqb (l .consumer) o) _ q) }
+    let q1 : l .live && eqb (consumerIn l) o ≡ true = and-l _ (samePort (portIn l) p) q in
+    record {
+      link = l;
+      among = m;
+      is-live = and-l (l .live) (eqb (consumerIn l) o) q1;
+      of-consumer = eqb-true _ _ (and-r (l .live) (eqb (consumerIn l) o) q1);
+      of-port = same-port _ _ (and-r (l .live && eqb (consumerIn l) o) _ q);
+    }
 
 pub of-linked : (ls : List Link) (o : ℕ) (p : Port) → Linked ls o p → any (linksTo o p) ls ≡ true
 unfolding linksTo
@@ -179,11 +194,16 @@ nodes-of ns h i = go (decLt i (length ns))
 
 pub covered-of : (T : Tables) → coverage T ≡ true → Covered T
 unfolding coverage isCovered
-covered-of T h d m p a b = linked-of (T .links) (d .owner) (d .port) (imp-e (conj (needTests (installed (T .nodes)) d)) _ (all-in (isCovered (installed (T .nodes)) (T .links)) m h) (of-each (needTests (installed (T .nodes)) d) (f-not _ p, (and-i (present (T .nodes) (d .owner)) _ a b, tt))))
+covered-of T h d m p a b =
+    let needs = needTests (installed (T .nodes)) d in
+    let all-needed = of-each needs (f-not _ p, (and-i (present (T .nodes) (ownerIn d)) _ a b, tt)) in
+    linked-of (T .links) (ownerIn d) (declaredPort d) (imp-e (conj needs) _ (all-in (isCovered (installed (T .nodes)) (T .links)) m h) all-needed)
 
 pub of-covered : (T : Tables) → Covered T → coverage T ≡ true
 unfolding coverage isCovered
-of-covered T k = in-all _ (T .declarations) (λ d m. imp-i (conj (needTests (installed (T .nodes)) d)) _ (λ h. let e : Each (needTests (installed (T .nodes)) d) = each (needTests (installed (T .nodes)) d) h in of-linked _ _ _ (k d m (not-t _ (e .0)) (and-l (present (T .nodes) (d .owner)) _ (e .1 .0)) (and-r (present (T .nodes) (d .owner)) _ (e .1 .0)))))
+of-covered T k = in-all _ (T .declarations) (λ d m. imp-i (conj (needTests (installed (T .nodes)) d)) _ (λ h.
+    let e : Each (needTests (installed (T .nodes)) d) = each (needTests (installed (T .nodes)) d) h in
+    of-linked _ _ _ (k d m (not-t _ (e .0)) (and-l (present (T .nodes) (ownerIn d)) _ (e .1 .0)) (and-r (present (T .nodes) (ownerIn d)) _ (e .1 .0)))))
 
 pub safe-of : (T : Tables) → safetyWf T ≡ true → Safe T
 unfolding safetyWf hasOwner sameOwner
@@ -191,7 +211,10 @@ safe-of T h =
     let e : Each (safetyTests T) = each (safetyTests T) h in
     record {
       owners = λ d m. ltb-true _ _ (all-in (hasOwner (length (T .nodes))) m (e .0));
-      unique = λ d f m k p q a b r. eqb-true (d .owner) (f .owner) (imp-e (conj (rivalTests (present (T .nodes)) d f)) _ (all-in (sameOwner (present (T .nodes)) d) k (all-in (λ d. all (sameOwner (present (T .nodes)) d) (T .declarations)) m (e .1 .0))) (of-each (rivalTests (present (T .nodes)) d f) (p, (q, (a, (b, (rw r (port-same (f .port)), tt)))))));
+      unique = λ d f m k p q a b r.
+          let rivals = rivalTests (present (T .nodes)) d f in
+          let same = all-in (sameOwner (present (T .nodes)) d) k (all-in (λ d. all (sameOwner (present (T .nodes)) d) (T .declarations)) m (e .1 .0)) in
+          eqb-true (ownerIn d) (ownerIn f) (imp-e (conj rivals) _ same (of-each rivals (p, (q, (a, (b, (rw r (port-same (declaredPort f)), tt)))))));
       nodes = nodes-of (T .nodes) (e .1 .1 .0);
       live = λ l m v. live-of (T .nodes) (T .declarations) l (all-in (linkOk (installed (T .nodes)) (serving (T .nodes)) (T .declarations)) m (e .1 .1 .1 .0)) v;
       order = e .1 .1 .1 .1 .0;
@@ -199,7 +222,21 @@ safe-of T h =
 
 pub of-safe : (T : Tables) → Safe T → safetyWf T ≡ true
 unfolding safetyWf hasOwner sameOwner
-of-safe T k = of-each (safetyTests T) (in-all _ (T .declarations) (λ d m. lt-ltb _ _ (k .owners d m)), (in-all _ (T .declarations) (λ d m. in-all (sameOwner (present (T .nodes)) d) (T .declarations) (λ f n. imp-i (conj (rivalTests (present (T .nodes)) d f)) _ (λ h. let e : Each (rivalTests (present (T .nodes)) d f) = each (rivalTests (present (T .nodes)) d f) h in eq-eqb _ _ (k .unique d f m n (e .0) (e .1 .0) (e .1 .1 .0) (e .1 .1 .1 .0) (same-port _ _ (e .1 .1 .1 .1 .0)))))), (at-allAt (nodeOk (T .nodes)) 0 (T .nodes) blankNode (λ i l. rw (zero-add i) (of-node (T .nodes) i _ (unfold nodeAt in k .nodes i))), (in-all _ (T .links) (λ l m. of-live (T .nodes) (T .declarations) l (k .live l m)), (k .order, tt)))))
+of-safe T k = of-each (safetyTests T) (owned, (in-all _ (T .declarations) (λ d m. in-all (sameOwner (present (T .nodes)) d) (T .declarations) (one d m)), (consistent, (linked, (k .order, tt)))))
+  where
+    owned : all (hasOwner (length (T .nodes))) (T .declarations) ≡ true
+    owned = in-all _ (T .declarations) (λ d m. lt-ltb _ _ (k .owners d m))
+
+    one : (d : Declaration) → List·Memᴰ d (T .declarations) → (f : Declaration) → List·Memᴰ f (T .declarations) → sameOwner (present (T .nodes)) d f ≡ true
+    one d m f n = imp-i (conj (rivalTests (present (T .nodes)) d f)) _ (λ h.
+        let e : Each (rivalTests (present (T .nodes)) d f) = each (rivalTests (present (T .nodes)) d f) h in
+        eq-eqb _ _ (k .unique d f m n (e .0) (e .1 .0) (e .1 .1 .0) (e .1 .1 .1 .0) (same-port _ _ (e .1 .1 .1 .1 .0))))
+
+    consistent : allAt (nodeOk (T .nodes)) 0 (T .nodes) ≡ true
+    consistent = at-allAt (nodeOk (T .nodes)) 0 (T .nodes) blankNode (λ i l. rw (zero-add i) (of-node (T .nodes) i _ (unfold nodeAt in k .nodes i)))
+
+    linked : all (linkOk (installed (T .nodes)) (serving (T .nodes)) (T .declarations)) (T .links) ≡ true
+    linked = in-all _ (T .links) (λ l m. of-live (T .nodes) (T .declarations) l (k .live l m))
 
 pub fits-of : (S : Sizes) (T : Tables) → fits S T ≡ true → Fits S T
 unfolding fits

@@ -1,15 +1,10 @@
 -- What the tests on lists say, by membership and by place.
-use mathlib.Core.Path.{_≡_, ap, refl, sym}
-use mathlib.Core.Bool.{Bool, _||_, cond, false, true, true≢false}
-use mathlib.Core.List.{List, List·Memᴰ, List·Memᴰ·head, List·Memᴰ·not-nil, List·Memᴰ·tail, [], _++_, _∷_, map}
-use mathlib.Core.Option.{Option, none, some}
-use Prim.Native.Nat.{_+_, _<_, _≤_, suc, zero, ℕ}
-use native.Mathlib.Omega.{arith}
-use native.Mathlib.Nat.{add-zero}
-use lib.ListN.{getD, length}
-use Rattle.model.proofs.Laws.Booleans.{and-i, and-l, and-r, clash, or-f-l, or-f-r}
-use Rattle.model.specs.Lists.{all, allAt, any, isNone, keep, onward}
-use Rattle.model.specs.Points.{Among, At}
+use mathlib.Core.{Bool.Bool, Bool._||_, Bool.cond, Bool.false, Bool.true, Bool.true≢false, List.List, List.List·Memᴰ, List.List·Memᴰ·head, List.List·Memᴰ·not-nil, List.List·Memᴰ·tail, List.[], List._++_, List._∷_, List.map, Option.Option, Option.none, Option.some, Path._≡_, Path.ap, Path.refl, Path.sym}
+use Prim.Native.{Nat._+_, Nat._<_, Nat._≤_, Nat.suc, Nat.zero, Nat.ℕ}
+use native.Mathlib.{Nat.add-zero, Omega.arith}
+use lib.{ListN.getD, ListN.length}
+use Rattle.model.proofs.{Laws.Booleans.and-i, Laws.Booleans.and-l, Laws.Booleans.and-r, Laws.Booleans.clash, Laws.Booleans.or-f-l, Laws.Booleans.or-f-r}
+use Rattle.model.specs.{Lists.all, Lists.allAt, Lists.any, Lists.isNone, Lists.keep, Lists.onward, Points.Among, Points.At}
 
 -- ---- membership
 
@@ -100,7 +95,9 @@ module _ {A : Type 0} (f : ℕ → A → Bool) where
   pub at-allAt : (k : ℕ) (xs : List A) (d : A) → ((i : ℕ) → i < length xs → f (k + i) (getD xs i d) ≡ true) → allAt f k xs ≡ true
   unfolding allAt
   at-allAt k [] d h = refl
-  at-allAt k (x ∷ xs) d h = and-i (f k x) (allAt f (suc k) xs) (rw (add-zero k) at (h 0 (omega arith))) (at-allAt (suc k) xs d (λ i l. let e : suc k + i ≡ k + suc i = omega arith in rw e (h (suc i) (omega arith))))
+  at-allAt k (x ∷ xs) d h =
+      let rest = at-allAt (suc k) xs d (λ i l. let e : suc k + i ≡ k + suc i = omega arith in rw e (h (suc i) (omega arith))) in
+      and-i (f k x) (allAt f (suc k) xs) (rw (add-zero k) at (h 0 (omega arith))) rest
 
 -- an entry has a place, and what stands at a place is an entry
 module _ {A : Type 0} where
@@ -134,7 +131,10 @@ module _ {A : Type 0} (f : A → A → Bool) where
   pub at-onward : (xs : List A) → ((i j : ℕ) (x y : A) → At xs i x → At xs j y → i ≤ j → f x y ≡ true) → onward f xs ≡ true
   unfolding onward
   at-onward [] g = refl
-  at-onward (x ∷ xs) g = and-i (all (f x) (x ∷ xs)) (onward f xs) (in-all (f x) (x ∷ xs) (λ y m. let (j, a) = in-at m in g 0 j x y (omega arith, refl) a (omega arith))) (at-onward xs (λ i j y z a b p. g (suc i) (suc j) y z (omega (arith, a .0), a .1) (omega (arith, b .0), b .1) (omega arith)))
+  at-onward (x ∷ xs) g =
+      let now = in-all (f x) (x ∷ xs) (λ y m. let (j, a) = in-at m in g 0 j x y (omega arith, refl) a (omega arith)) in
+      let rest = at-onward xs (λ i j y z a b p. g (suc i) (suc j) y z (omega (arith, a .0), a .1) (omega (arith, b .0), b .1) (omega arith)) in
+      and-i (all (f x) (x ∷ xs)) (onward f xs) now rest
 
 pub is-some : {A : Type 0} (o : Option A) → isNone o ≡ false → (a : A) × (o ≡ some a)
 is-some none h = clash true refl h

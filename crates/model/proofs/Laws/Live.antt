@@ -1,8 +1,6 @@
 -- A test that only what is kept can pass answers on that as on all.
-use mathlib.Core.Path.{_≡_, ap, refl}
-use mathlib.Core.Bool.{Bool, _||_, cond, false, true}
-use mathlib.Core.List.{List, [], _∷_}
-use Rattle.model.specs.Lists.{any, keep}
+use mathlib.Core.{Bool.Bool, Bool._||_, Bool.cond, Bool.false, Bool.true, List.List, List.[], List._∷_, Path._≡_, Path.ap, Path.refl}
+use Rattle.model.specs.{Lists.any, Lists.keep}
 
 module _ {A : Type 0} (q : A → Bool) where
   -- the first of a list is kept or not

@@ -1,20 +1,10 @@
 -- The node table: an identity read, one node written anew, one node behind the others.
-use mathlib.Core.Path.{_∙_, _≡_, ap, refl, sym}
-use mathlib.Core.Bool.{false, true}
-use mathlib.Core.List.{List, List·Memᴰ, [], _++_, _∷_}
-use Prim.Native.Nat.{_<_, _≤_, ℕ}
-use native.Mathlib.Omega.{arith}
-use native.Mathlib.Decide.{decLt, ℕ-discrete}
-use lib.Dec.{ltb}
-use lib.ListN.{List·getD-append, List·getD-eq-default, length, length-append, set}
-use lib.Seq.{getD-append-seam, getD-set-other, getD-set-same}
-use Rattle.model.specs.declared.Node.{Node}
-use Rattle.model.specs.declared.Parent.{Parent}
-use Rattle.model.proofs.Laws.Booleans.{and-i, and-l, and-r, clash}
-use Rattle.model.proofs.Laws.Lists.{place-in}
-use Rattle.model.specs.Records.{blankNode}
-use Rattle.model.specs.Soundness.{parentOk}
-use Rattle.model.specs.Tables.{nodeAt, present}
+use mathlib.Core.{Bool.false, Bool.true, List.List, List.List·Memᴰ, List.[], List._++_, List._∷_, Path._∙_, Path._≡_, Path.ap, Path.refl, Path.sym}
+use Prim.Native.{Nat._<_, Nat._≤_, Nat.ℕ}
+use native.Mathlib.{Decide.decLt, Decide.ℕ-discrete, Omega.arith}
+use lib.{Dec.ltb, ListN.List·getD-append, ListN.List·getD-eq-default, ListN.length, ListN.length-append, ListN.set, Seq.getD-append-seam, Seq.getD-set-other, Seq.getD-set-same}
+use Rattle.model.specs.{Records.blankNode, Soundness.parentOk, Tables.nodeAt, Tables.present, declared.Parent.Parent, declared.records.Node.Node}
+use Rattle.model.proofs.{Laws.Booleans.and-i, Laws.Booleans.and-l, Laws.Booleans.and-r, Laws.Booleans.clash, Laws.Lists.place-in}
 
 pub present-lt : (ns : List Node) (i : ℕ) → present ns i ≡ true → i < length ns
 unfolding nodeAt

@@ -1,25 +1,19 @@
 -- The order of live links, kept by what a command does to the link table.
-use mathlib.Core.Path.{_≡_, refl}
-use mathlib.Core.Bool.{Bool, _&&_, cond, false, not, true}
-use mathlib.Core.List.{List, List·Memᴰ, List·Memᴰ·append-cases, List·Memᴰ·head, List·Memᴰ·tail, [], _++_, _∷_, map}
-use mathlib.Core.Logic.{_⊎_, inl, inr}
-use lib.Dec.{eqb}
-use borrow.Author.Tests.{eq-eqb, eqb-true}
-use Rattle.model.specs.declared.Link.{Link}
-use Rattle.model.proofs.Laws.Booleans.{and-i, and-l, and-r, cases, clash, not-t}
-use Rattle.model.proofs.Laws.Lists.{all-in, all-keep, in-all, in-map}
-use Rattle.model.specs.Lists.{all, keep, onward}
-use Rattle.model.specs.Soundness.{apart, ordered}
+use mathlib.Core.{Bool.Bool, Bool._&&_, Bool.cond, Bool.false, Bool.not, Bool.true, List.List, List.List·Memᴰ, List.List·Memᴰ·append-cases, List.List·Memᴰ·head, List.List·Memᴰ·tail, List.[], List._++_, List._∷_, List.map, Logic._⊎_, Logic.inl, Logic.inr, Path._≡_, Path.refl}
+use lib.{Dec.eqb}
+use borrow.{Author.Tests.eq-eqb, Author.Tests.eqb-true}
+use Rattle.model.specs.{Lists.all, Lists.keep, Lists.onward, Records.consumerIn, Records.providerIn, Soundness.apart, Soundness.ordered, declared.records.Link.Link}
+use Rattle.model.proofs.{Laws.Booleans.and-i, Laws.Booleans.and-l, Laws.Booleans.and-r, Laws.Booleans.clash, Laws.Booleans.not-t, Laws.Lists.all-in, Laws.Lists.all-keep, Laws.Lists.in-all, Laws.Lists.in-map}
 
-pub apart-of : (l m : Link) → (l .live ≡ true → m .live ≡ true → l .binding .provider ≡ m .consumer → ⊥) → apart l m ≡ true
+pub apart-of : (l m : Link) → (l .live ≡ true → m .live ≡ true → providerIn l ≡ consumerIn m → ⊥) → apart l m ≡ true
 unfolding apart
-apart-of l m f = go (cases (l .live && m .live && eqb (l .binding .provider) (m .consumer)))
+apart-of l m f = go _ refl
   where
-    go : (l .live && m .live && eqb (l .binding .provider) (m .consumer) ≡ true) ⊎ (l .live && m .live && eqb (l .binding .provider) (m .consumer) ≡ false) → not (l .live && m .live && eqb (l .binding .provider) (m .consumer)) ≡ true
-    go (inl e) = let a : l .live && m .live ≡ true = and-l (l .live && m .live) _ e in absurd (f (and-l (l .live) (m .live) a) (and-r (l .live) (m .live) a) (eqb-true _ _ (and-r (l .live && m .live) _ e)))
-    go (inr e) = rw e
+    go : (b : Bool) → l .live && m .live && eqb (providerIn l) (consumerIn m) ≡ b → not b ≡ true
+    go true e = let a : l .live && m .live ≡ true = and-l (l .live && m .live) _ e in absurd (f (and-l (l .live) (m .live) a) (and-r (l .live) (m .live) a) (eqb-true _ _ (and-r (l .live && m .live) _ e)))
+    go false e = refl
 
-pub of-apart : (l m : Link) → apart l m ≡ true → l .live ≡ true → m .live ≡ true → l .binding .provider ≡ m .consumer → ⊥
+pub of-apart : (l m : Link) → apart l m ≡ true → l .live ≡ true → m .live ≡ true → providerIn l ≡ consumerIn m → ⊥
 unfolding apart
 of-apart l m h a b e = clash {A = ⊥} _ (and-i (l .live && m .live) _ (and-i (l .live) (m .live) a b) (eq-eqb _ _ e)) (not-t _ h)
 
@@ -32,7 +26,9 @@ ordered-all (l ∷ ls) f = and-i (all (apart l) (l ∷ ls)) (ordered ls) (in-all
 pub ordered-append : (ls ms : List Link) → ordered ls ≡ true → ordered ms ≡ true → ((l m : Link) → List·Memᴰ l ls → List·Memᴰ m ms → apart l m ≡ true) → ordered (ls ++ ms) ≡ true
 unfolding onward
 ordered-append [] ms p q f = q
-ordered-append (l ∷ ls) ms p q f = and-i (all (apart l) (l ∷ (ls ++ ms))) (ordered (ls ++ ms)) (in-all (apart l) (l ∷ (ls ++ ms)) (λ m n. go m (List·Memᴰ·append-cases (l ∷ ls) n))) (ordered-append ls ms (and-r (all (apart l) (l ∷ ls)) (ordered ls) p) q (λ a b m n. f a b (List·Memᴰ·tail m) n))
+ordered-append (l ∷ ls) ms p q f =
+    let rest = ordered-append ls ms (and-r (all (apart l) (l ∷ ls)) (ordered ls) p) q (λ a b m n. f a b (List·Memᴰ·tail m) n) in
+    and-i (all (apart l) (l ∷ (ls ++ ms))) (ordered (ls ++ ms)) (in-all (apart l) (l ∷ (ls ++ ms)) (λ m n. go m (List·Memᴰ·append-cases (l ∷ ls) n))) rest
   where
     go : (m : Link) → List·Memᴰ m (l ∷ ls) ⊎ List·Memᴰ m ms → apart l m ≡ true
     go m (inl n) = all-in (apart l) n (and-l (all (apart l) (l ∷ ls)) (ordered ls) p)
@@ -42,7 +38,10 @@ ordered-append (l ∷ ls) ms p q f = and-i (all (apart l) (l ∷ (ls ++ ms))) (o
 pub ordered-map : (f : Link → Link) → ((l m : Link) → apart l m ≡ true → apart (f l) (f m) ≡ true) → (ls : List Link) → ordered ls ≡ true → ordered (map f ls) ≡ true
 unfolding onward
 ordered-map f g [] h = refl
-ordered-map f g (l ∷ ls) h = and-i (all (apart (f l)) (f l ∷ map f ls)) (ordered (map f ls)) (in-all (apart (f l)) (map f (l ∷ ls)) (λ m n. let (a, b, e) = in-map f (l ∷ ls) n in rw e (g l a (all-in (apart l) b (and-l (all (apart l) (l ∷ ls)) (ordered ls) h))))) (ordered-map f g ls (and-r (all (apart l) (l ∷ ls)) (ordered ls) h))
+ordered-map f g (l ∷ ls) h =
+    let before = and-l (all (apart l) (l ∷ ls)) (ordered ls) h in
+    let now = in-all (apart (f l)) (map f (l ∷ ls)) (λ m n. let (a, b, e) = in-map f (l ∷ ls) n in rw e (g l a (all-in (apart l) b before))) in
+    and-i (all (apart (f l)) (f l ∷ map f ls)) (ordered (map f ls)) now (ordered-map f g ls (and-r (all (apart l) (l ∷ ls)) (ordered ls) h))
 
 -- some of the links
 pub ordered-keep : (p : Link → Bool) (ls : List Link) → ordered ls ≡ true → ordered (keep p ls) ≡ true

@@ -1,8 +1,6 @@
 -- What one test on a phase says of another.
-use mathlib.Core.Bool.{false, not, true}
-use mathlib.Core.Path.{_≡_, refl, sym}
-use Rattle.model.specs.declared.Phase.{Phase}
-use Rattle.model.specs.Records.{isActive, isInactive, isLoading, isRunning, isUnloading}
+use mathlib.Core.{Bool.false, Bool.not, Bool.true, Path._≡_, Path.refl, Path.sym}
+use Rattle.model.specs.{Records.isActive, Records.isInactive, Records.isLoading, Records.isRunning, Records.isUnloading, declared.Phase.Phase}
 
 pub running-installed : (f : Phase) → isRunning f ≡ true → not (isInactive f) ≡ true
 running-installed Phase.Inactive h = h

@@ -1,26 +1,16 @@
 -- Tests in order: those that all passed, and the first that applies.
--- no test of a row applies, by place
-use mathlib.Core.Bool.{Bool, false, true}
-use mathlib.Core.List.{List, [], _++_, _∷_}
-use mathlib.Core.Option.{Option, none, some}
-use mathlib.Core.Path.{_≡_, refl}
-use Prim.Native.Nat.{ℕ}
-use native.Mathlib.Omega.{arith}
-use Rattle.model.specs.declared.Answer.{Answer}
-use Rattle.model.specs.declared.Error.{Error}
-use Rattle.model.proofs.Laws.Booleans.{and-l, and-r}
-use Rattle.model.specs.Answers.{checked}
-use Rattle.model.specs.Commands.{Command, Outcome, report, result, settle, step, tests}
-use Rattle.model.specs.Lists.{all}
-use Rattle.model.specs.Refusals.{Reply, accepted, first}
-use Rattle.model.specs.Sizes.{Sizes}
-use Rattle.model.specs.Tables.{Tables}
+use mathlib.Core.{Bool.Bool, Bool.false, Bool.true, List.[], List._++_, List._∷_, Option.Option, Option.none, Option.some, Path._≡_, Path.refl}
+use Prim.Native.{Nat.ℕ}
+use native.Mathlib.{Omega.arith}
+use Rattle.model.specs.{Answers.checked, Commands.Command, Commands.Outcome, Commands.report, Commands.result, Commands.settle, Commands.step, Commands.tests, Lists.all, Refusals.Reply, Refusals.Tests, Refusals.accepted, Refusals.first, Sizes.Sizes, Tables.Tables, declared.Answer.Answer, declared.Error.Error}
+use Rattle.model.proofs.{Laws.Booleans.and-l, Laws.Booleans.and-r}
 
-abbrev pub Passed : List (Bool × Error) → Type 0
+-- no test of a row applies, by place
+abbrev pub Passed : Tests → Type 0
 Passed [] = Unit {0}
 Passed (t ∷ ts) = (t .0 ≡ false) × Passed ts
 
-pub passed : (ts : List (Bool × Error)) → first ts ≡ none → Passed ts
+pub passed : (ts : Tests) → first ts ≡ none → Passed ts
 unfolding first
 passed [] h = tt
 passed (t ∷ ts) h = go (t .0) refl (λ e. passed ts e)
@@ -29,23 +19,23 @@ passed (t ∷ ts) h = go (t .0) refl (λ e. passed ts e)
     go true e f = let z : _≡_ {A = ℕ} 0 1 = cc (rw e at h) in absurd (omega arith)
     go false e f = (e, f (rw e at h))
 
-pub of-passed : (ts : List (Bool × Error)) → Passed ts → first ts ≡ none
+pub of-passed : (ts : Tests) → Passed ts → first ts ≡ none
 unfolding first
 of-passed [] p = refl
 of-passed (t ∷ ts) p = rw (p .0) (of-passed ts (p .1))
 
-pub skip : (b : Bool) (e : Error) (ts : List (Bool × Error)) → b ≡ false → first ((b, e) ∷ ts) ≡ first ts
+pub skip : (b : Bool) (e : Error) (ts : Tests) → b ≡ false → first ((b, e) ∷ ts) ≡ first ts
 unfolding first
 skip b e ts h = rw h
 
-pub stop : (b : Bool) (e : Error) (ts : List (Bool × Error)) → b ≡ true → first ((b, e) ∷ ts) ≡ some e
+pub stop : (b : Bool) (e : Error) (ts : Tests) → b ≡ true → first ((b, e) ∷ ts) ≡ some e
 unfolding first
 stop b e ts h = rw h
 
 -- ---- a row whose first tests are answered by themselves
 
 -- a refusal among them is the row's
-pub refused-among : (ts us : List (Bool × Error)) (a : Answer) (x : Error) → a ≡ checked ts → a ≡ Answer.Refused x → first (ts ++ us) ≡ some x
+pub refused-among : (ts us : Tests) (a : Answer) (x : Error) → a ≡ checked ts → a ≡ Answer.Refused x → first (ts ++ us) ≡ some x
 unfolding first
 refused-among [] us a x h r = let z : _≡_ {A = ℕ} 0 1 = cc in absurd (omega arith)
 refused-among (t ∷ ts) us a x h r = go (t .0) refl (λ q. refused-among ts us a x q r)
@@ -55,7 +45,7 @@ refused-among (t ∷ ts) us a x h r = go (t .0) refl (λ q. refused-among ts us 
     go false e f = rw e (f (rw e at h))
 
 -- done: none of them applies
-pub done-passed : (ts : List (Bool × Error)) (a : Answer) → a ≡ checked ts → a ≡ Answer.Done → Passed ts
+pub done-passed : (ts : Tests) (a : Answer) → a ≡ checked ts → a ≡ Answer.Done → Passed ts
 unfolding first
 done-passed [] a h d = tt
 done-passed (t ∷ ts) a h d = go (t .0) refl (λ q. done-passed ts a q d)
@@ -65,13 +55,17 @@ done-passed (t ∷ ts) a h d = go (t .0) refl (λ q. done-passed ts a q d)
     go false e f = (e, f (rw e at h))
 
 -- and the others decide
-pub passed-first : (ts us : List (Bool × Error)) → Passed ts → first (ts ++ us) ≡ first us
+pub passed-first : (ts us : Tests) → Passed ts → first (ts ++ us) ≡ first us
 unfolding first
 passed-first [] us p = refl
 passed-first (t ∷ ts) us p = rw (p .0) (passed-first ts us (p .1))
 
 -- a command's outcome, refused or accepted
-pub step-cases : (P : Outcome → Type 0) (S : Sizes) (T : Tables) (c : Command) → ((e : Error) → first (tests S T c) ≡ some e → P (record { tables = T; reply = Reply.refused e })) → (Passed (tests S T c) → P (record { tables = result T c; reply = report T c })) → P (step S T c)
+pub step-cases :
+    (P : Outcome → Type 0) (S : Sizes) (T : Tables) (c : Command)
+    → ((e : Error) → first (tests S T c) ≡ some e → P (record { tables = T; reply = Reply.refused e }))
+    → (Passed (tests S T c) → P (record { tables = result T c; reply = report T c }))
+    → P (step S T c)
 unfolding step settle
 step-cases P S T c p f = go (first (tests S T c)) refl
   where
@@ -84,7 +78,7 @@ pub step-keeps : (P : Tables → Type 0) (S : Sizes) (T : Tables) (c : Command) 
 step-keeps P S T c p f = step-cases (λ o. P (o .tables)) S T c (λ e h. p) f
 
 -- the refusal of the first test that applies is one of the row
-pub first-among : (ts : List (Bool × Error)) (e : Error) (f : Error → Bool) → all (λ (t : Bool × Error). f (t .1)) ts ≡ true → first ts ≡ some e → f e ≡ true
+pub first-among : (ts : Tests) (e : Error) (f : Error → Bool) → all (λ (t : Bool × Error). f (t .1)) ts ≡ true → first ts ≡ some e → f e ≡ true
 unfolding all first
 first-among [] e f h q = let z : _≡_ {A = ℕ} 0 1 = cc in absurd (omega arith)
 first-among (t ∷ ts) e f h q = go (t .0) refl (λ x. first-among ts e f (and-r (f (t .1)) _ h) x)

@@ -1,36 +1,23 @@
 -- What resolve and target found, as facts.
-use mathlib.Core.Path.{_∙_, _≡_, ap, refl, sym}
-use mathlib.Core.Bool.{Bool, _&&_, _||_, false, not, true}
-use mathlib.Core.List.{List, List·Memᴰ, List·Memᴰ·cases-cons, List·Memᴰ·head, List·Memᴰ·not-nil, List·Memᴰ·tail, Memᴰ·cast, [], _∷_, map}
-use mathlib.Core.Option.{Option, none, some}
-use mathlib.Core.Logic.{_⊎_, inl, inr}
-use Prim.Native.Nat.{ℕ}
-use native.Mathlib.Omega.{arith}
-use borrow.Author.Tests.{eq-eqb, eqb-true}
-use Rattle.model.specs.declared.Binding.{Binding}
-use Rattle.model.specs.declared.Declaration.{Declaration}
-use Rattle.model.specs.declared.Node.{Node}
-use Rattle.model.specs.declared.Port.{Port}
-use Rattle.model.proofs.Laws.Booleans.{and-l, and-r, both-or, cases, not-f, not-t, or-f-l, or-f-r}
-use Rattle.model.proofs.Laws.Facts.{same-port}
-use Rattle.model.proofs.Laws.Lists.{in-keep, in-map, keep-in, map-in}
-use Rattle.model.specs.Lists.{keep}
-use Rattle.model.specs.Records.{bindingOf, dependency, isActive, portOf, provision, samePort}
-use Rattle.model.specs.Resolution.{bindPorts, dependencyPorts, isDependencyOf, joined, offers, resolve, target}
-use Rattle.model.specs.Tables.{Tables, nodeAt, present, providing}
+use mathlib.Core.{Bool.Bool, Bool._&&_, Bool._||_, Bool.false, Bool.not, Bool.true, List.List, List.List·Memᴰ, List.List·Memᴰ·cases-cons, List.List·Memᴰ·head, List.List·Memᴰ·not-nil, List.List·Memᴰ·tail, List.Memᴰ·cast, List.[], List._∷_, List.map, Logic._⊎_, Logic.inl, Logic.inr, Option.Option, Option.none, Option.some, Path._∙_, Path._≡_, Path.ap, Path.refl, Path.sym}
+use Prim.Native.{Nat.ℕ}
+use native.Mathlib.{Omega.arith}
+use borrow.{Author.Tests.eq-eqb, Author.Tests.eqb-true}
+use Rattle.model.specs.{Lists.keep, Records.bindingOf, Records.declaredPort, Records.dependency, Records.isActive, Records.ownerIn, Records.portOf, Records.provision, Records.samePort, Resolution.bindPorts, Resolution.dependencyPorts, Resolution.isDependencyOf, Resolution.joined, Resolution.offers, Resolution.resolve, Resolution.target, Tables.Tables, Tables.nodeAt, Tables.present, Tables.providing, declared.Binding.Binding, declared.Port.Port, declared.records.Declaration.Declaration, declared.records.Node.Node}
+use Rattle.model.proofs.{Laws.Booleans.and-l, Laws.Booleans.and-r, Laws.Booleans.both-or, Laws.Booleans.cases, Laws.Booleans.not-f, Laws.Booleans.not-t, Laws.Booleans.or-f-l, Laws.Booleans.or-f-r, Laws.Facts.same-port, Laws.Lists.in-keep, Laws.Lists.in-map, Laws.Lists.keep-in, Laws.Lists.map-in, Laws.Records.declaration-is}
 
 pub record Resolved (ns : List Node) (ds : List Declaration) (p : Port) (o : ℕ) : Type 0 where
   pub offered : List·Memᴰ (provision o p) ds
   pub there : present ns o ≡ true
   pub is-active : isActive ((nodeAt ns o) .phase) ≡ true
 
-offers-provision : (f : ℕ → Bool) (p : Port) (d : Declaration) → offers f p d ≡ true → (provision (d .owner) p ≡ d) × (f (d .owner) ≡ true)
+offers-provision : (f : ℕ → Bool) (p : Port) (d : Declaration) → offers f p d ≡ true → (provision (ownerIn d) p ≡ d) × (f (ownerIn d) ≡ true)
 unfolding offers
 offers-provision f p d h =
-    let b : d .provides && samePort (d .port) p ≡ true = and-l (d .provides && samePort (d .port) p) _ h in
+    let b : d .provides && samePort (declaredPort d) p ≡ true = and-l (d .provides && samePort (declaredPort d) p) _ h in
     let x : d .provides ≡ true = and-l (d .provides) _ b in
-    let y : d .port ≡ p = same-port _ _ (and-r (d .provides) _ b) in
-    (sym (λ i. record { owner = d .owner; port = y i; provides = x i }), and-r (d .provides && samePort (d .port) p) _ h)
+    let y : declaredPort d ≡ p = same-port _ _ (and-r (d .provides) _ b) in
+    (sym (declaration-is refl y x), and-r (d .provides && samePort (declaredPort d) p) _ h)
 
 -- what resolve found, whatever tells who provides
 pub resolve-found : (f : ℕ → Bool) (ds : List Declaration) (p : Port) (o : ℕ) → resolve f ds p ≡ some o → List·Memᴰ (provision o p) ds × (f o ≡ true)
@@ -40,7 +27,7 @@ resolve-found f (d ∷ ds) p o h = go (offers f p d) refl (λ e. resolve-found f
   where
     go : (b : Bool) → offers f p d ≡ b → (resolve f ds p ≡ some o → List·Memᴰ (provision o p) ds × (f o ≡ true)) → List·Memᴰ (provision o p) (d ∷ ds) × (f o ≡ true)
     go true e g =
-        let w : d .owner ≡ o = cc (rw e at h) in
+        let w : ownerIn d ≡ o = cc (rw e at h) in
         let (x, y) = offers-provision f p d e in
         (List·Memᴰ·head (ap (λ (j : ℕ). provision j p) (sym w) ∙ x), rw w at y)
     go false e g = let (m, y) = g (rw e at h) in (List·Memᴰ·tail m, y)
@@ -83,15 +70,15 @@ bound-in f (p ∷ ps) bs h b m = go (List·Memᴰ·cases-cons (rw (j .whole) at 
 pub wants-in : (ds : List Declaration) (id : ℕ) (p : Port) → List·Memᴰ p (dependencyPorts ds id) → List·Memᴰ (dependency id p) ds
 unfolding dependencyPorts isDependencyOf
 wants-in ds id p m =
-    let (d, n, e) = in-map (λ d. d .port) (keep (isDependencyOf id) ds) m in
+    let (d, n, e) = in-map declaredPort (keep (isDependencyOf id) ds) m in
     let (i, q) = in-keep (isDependencyOf id) ds n in
-    let x : d .owner ≡ id = eqb-true _ _ (and-r (not (d .provides)) _ q) in
+    let x : ownerIn d ≡ id = eqb-true _ _ (and-r (not (d .provides)) _ q) in
     let y : d .provides ≡ false = not-t _ (and-l (not (d .provides)) _ q) in
-    Memᴰ·cast (sym (λ i. record { owner = x i; port = sym e i; provides = y i })) i
+    Memᴰ·cast (sym (declaration-is x (sym e) y)) i
 
 pub in-wants : (ds : List Declaration) (id : ℕ) (p : Port) → List·Memᴰ (dependency id p) ds → List·Memᴰ p (dependencyPorts ds id)
 unfolding dependencyPorts isDependencyOf
-in-wants ds id p m = map-in (λ (d : Declaration). d .port) (keep-in (isDependencyOf id) m (eq-eqb id id refl))
+in-wants ds id p m = map-in declaredPort (keep-in (isDependencyOf id) m (eq-eqb id id refl))
 
 pub record Targeted (T : Tables) (id : ℕ) (bs : List Binding) : Type 0 where
   pub there : present (T .nodes) id ≡ true

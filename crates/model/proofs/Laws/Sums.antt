@@ -1,11 +1,9 @@
 -- Sums over the identities below a bound.
-use mathlib.Core.Path.{_≡_, refl}
-use mathlib.Core.Bool.{cond}
-use Prim.Native.Nat.{_+_, _<_, _≤_, suc, zero, ℕ}
-use native.Mathlib.Omega.{arith}
-use native.Mathlib.Decide.{decLt, ℕ-discrete}
-use lib.Dec.{eqb}
-use borrow.Author.Tests.{eq-eqb, ne-eqb}
+use mathlib.Core.{Bool.cond, Path._≡_, Path.refl}
+use Prim.Native.{Nat._+_, Nat._<_, Nat._≤_, Nat.suc, Nat.zero, Nat.ℕ}
+use native.Mathlib.{Decide.decLt, Decide.ℕ-discrete, Omega.arith}
+use lib.{Dec.eqb}
+use borrow.{Author.Tests.eq-eqb, Author.Tests.ne-eqb}
 
 unfoldable pub sumTo : ℕ → (ℕ → ℕ) → ℕ
 sumTo zero f = 0

@@ -1,35 +1,28 @@
 -- What one node anew, other links or other declarations leave of the facts.
--- a node that may be written anew for an identity
-use mathlib.Core.Path.{_≡_, refl, sym}
-use mathlib.Core.Bool.{Bool, false, not, true}
-use mathlib.Core.List.{List, List·Memᴰ}
-use mathlib.Core.Logic.{_⊎_, inl, inr}
-use Prim.Native.Nat.{_<_, ℕ}
-use native.Mathlib.Nat.{le-trans}
-use lib.ListN.{length, length-set, set}
-use Rattle.model.specs.declared.Declaration.{Declaration}
-use Rattle.model.specs.declared.Link.{Link}
-use Rattle.model.specs.declared.Node.{Node}
-use Rattle.model.specs.declared.Parent.{Parent}
-use Rattle.model.proofs.Laws.Booleans.{cases, clash}
-use Rattle.model.proofs.Laws.Facts.{Covered, Fits, LiveOk, NodeOk, Safe, Sound, Unique}
-use Rattle.model.proofs.Laws.Lists.{in-keep, keep-in, length-keep}
-use Rattle.model.proofs.Laws.Nodes.{at-set, parent-kept, present-lt}
-use Rattle.model.specs.Lists.{keep}
-use Rattle.model.specs.Records.{dependency, isInactive, isUnloading, portOf, provision}
-use Rattle.model.specs.Sizes.{Sizes}
-use Rattle.model.specs.Soundness.{ordered, parentOk}
-use Rattle.model.specs.Tables.{Tables, nodeAt, notInactive, present, withDeclarations, withLinks, withNode}
+use mathlib.Core.{Bool.Bool, Bool.false, Bool.not, Bool.true, List.List, List.List·Memᴰ, Logic._⊎_, Logic.inl, Logic.inr, Path._≡_, Path.refl, Path.sym}
+use Prim.Native.{Nat._<_, Nat.ℕ}
+use native.Mathlib.{Nat.le-trans}
+use lib.{ListN.length, ListN.length-set, ListN.set}
+use Rattle.model.specs.{Lists.keep, Records.bindingIn, Records.consumerIn, Records.dependency, Records.isInactive, Records.isUnloading, Records.ownerIn, Records.parentIn, Records.portIn, Records.providerIn, Records.provision, Sizes.Sizes, Soundness.ordered, Soundness.parentOk, Tables.Tables, Tables.nodeAt, Tables.notInactive, Tables.present, Tables.withDeclarations, Tables.withLinks, Tables.withNode, declared.Parent.Parent, declared.records.Declaration.Declaration, declared.records.Link.Link, declared.records.Node.Node}
+use Rattle.model.proofs.{Laws.Booleans.cases, Laws.Booleans.clash, Laws.Facts.Covered, Laws.Facts.Fits, Laws.Facts.LinkOk, Laws.Facts.LiveOk, Laws.Facts.NodeOk, Laws.Facts.Safe, Laws.Facts.Sound, Laws.Facts.Unique, Laws.Lists.in-keep, Laws.Lists.keep-in, Laws.Lists.length-keep, Laws.Nodes.at-set, Laws.Nodes.parent-kept, Laws.Nodes.present-lt}
 
+-- what a live link's consumer is, and what its provider is
+abbrev pub Stands : Node → Type 0
+Stands m = (m .present ≡ true) × (not (isInactive (m .phase)) ≡ true)
+
+abbrev pub Serves : Node → Type 0
+Serves m = (m .present ≡ true) × (not (isInactive (m .phase)) ≡ true) × (m .restoring ≡ false)
+
+-- a node that may be written anew for an identity
 pub record Update (T : Tables) (id : ℕ) (n : Node) : Type 0 where
   pub there : present (T .nodes) id ≡ true
-  pub parent-ok : n .present ≡ true → parentOk (T .nodes) id (n .parent) ≡ true
+  pub parent-ok : n .present ≡ true → parentOk (T .nodes) id (parentIn n) ≡ true
   pub absent-inactive : n .present ≡ false → isInactive (n .phase) ≡ true
   pub restoring-present : n .restoring ≡ true → n .present ≡ true
   pub restoring-unloading : n .restoring ≡ true → isUnloading (n .phase) ≡ true
-  pub children : (i : ℕ) → present (T .nodes) i ≡ true → (nodeAt (T .nodes) i) .parent ≡ Parent.Of id → n .present ≡ true
-  pub consumes : (l : Link) → List·Memᴰ l (T .links) → l .live ≡ true → l .consumer ≡ id → (n .present ≡ true) × (not (isInactive (n .phase)) ≡ true)
-  pub provides : (l : Link) → List·Memᴰ l (T .links) → l .live ≡ true → l .binding .provider ≡ id → (n .present ≡ true) × (not (isInactive (n .phase)) ≡ true) × (n .restoring ≡ false)
+  pub children : (i : ℕ) → present (T .nodes) i ≡ true → parentIn (nodeAt (T .nodes) i) ≡ Parent.Of id → n .present ≡ true
+  pub consumes : (l : Link) → List·Memᴰ l (T .links) → l .live ≡ true → consumerIn l ≡ id → (n .present ≡ true) × (not (isInactive (n .phase)) ≡ true)
+  pub provides : (l : Link) → List·Memᴰ l (T .links) → l .live ≡ true → providerIn l ≡ id → (n .present ≡ true) × (not (isInactive (n .phase)) ≡ true) × (n .restoring ≡ false)
 
 module _ (T : Tables) (id : ℕ) (n : Node) (k : Safe T) (u : Update T id n) where
   lt : id < length (T .nodes)
@@ -47,7 +40,7 @@ module _ (T : Tables) (id : ℕ) (n : Node) (k : Safe T) (u : Update T id n) whe
     absent-kept = λ a. go a (cases (n .restoring));
     restoring-present = u .restoring-present;
     restoring-unloading = u .restoring-unloading;
-    parent-ok = λ a. parent-kept (T .nodes) (set (T .nodes) id n) id (n .parent) (λ j e h. still j (λ q. a) h) (u .parent-ok a);
+    parent-ok = λ a. parent-kept (T .nodes) (set (T .nodes) id n) id (parentIn n) (λ j e h. still j (λ q. a) h) (u .parent-ok a);
   }
     where
       go : n .present ≡ false → (n .restoring ≡ true) ⊎ (n .restoring ≡ false) → n .restoring ≡ false
@@ -60,14 +53,14 @@ module _ (T : Tables) (id : ℕ) (n : Node) (k : Safe T) (u : Update T id n) whe
     absent-kept = o .absent-kept;
     restoring-present = o .restoring-present;
     restoring-unloading = o .restoring-unloading;
-    parent-ok = λ a. parent-kept (T .nodes) (set (T .nodes) id n) i ((nodeAt (T .nodes) i) .parent) (λ j e h. still j (λ q. u .children i a (rw q at e)) h) (o .parent-ok a);
+    parent-ok = λ a. parent-kept (T .nodes) (set (T .nodes) id n) i (parentIn (nodeAt (T .nodes) i)) (λ j e h. still j (λ q. u .children i a (rw q at e)) h) (o .parent-ok a);
   }
 
-  new-live : (l : Link) → List·Memᴰ l (T .links) → l .live ≡ true → LiveOk (set (T .nodes) id n) (T .declarations) (l .consumer) (l .binding)
+  new-live : (l : Link) → List·Memᴰ l (T .links) → l .live ≡ true → LiveOk (set (T .nodes) id n) (T .declarations) (consumerIn l) (bindingIn l)
   new-live l m v =
-      let o : LiveOk (T .nodes) (T .declarations) (l .consumer) (l .binding) = k .live l m v in
-      let c : (i : ℕ) → i ≡ l .consumer → (present (set (T .nodes) id n) i ≡ true) × (notInactive (set (T .nodes) id n) i ≡ true) = at-set (λ i m. i ≡ l .consumer → (m .present ≡ true) × (not (isInactive (m .phase)) ≡ true)) (T .nodes) id n lt (λ e. u .consumes l m v (sym e)) (λ i e. rw e (o .consumer-present, o .consumer-installed)) in
-      let p : (i : ℕ) → i ≡ l .binding .provider → (present (set (T .nodes) id n) i ≡ true) × (notInactive (set (T .nodes) id n) i ≡ true) × ((nodeAt (set (T .nodes) id n) i) .restoring ≡ false) = at-set (λ i m. i ≡ l .binding .provider → (m .present ≡ true) × (not (isInactive (m .phase)) ≡ true) × (m .restoring ≡ false)) (T .nodes) id n lt (λ e. u .provides l m v (sym e)) (λ i e. rw e (o .provider-present, o .provider-installed, o .provider-kept)) in
+      let o : LiveOk (T .nodes) (T .declarations) (consumerIn l) (bindingIn l) = k .live l m v in
+      let c = at-set (λ i m. i ≡ consumerIn l → Stands m) (T .nodes) id n lt (λ e. u .consumes l m v (sym e)) (λ i e. rw e (o .consumer-present, o .consumer-installed)) in
+      let p = at-set (λ i m. i ≡ providerIn l → Serves m) (T .nodes) id n lt (λ e. u .provides l m v (sym e)) (λ i e. rw e (o .provider-present, o .provider-installed, o .provider-kept)) in
       record {
         consumer-present = (c _ refl) .0;
         consumer-installed = (c _ refl) .1;
@@ -89,7 +82,7 @@ module _ (T : Tables) (id : ℕ) (n : Node) (k : Safe T) (u : Update T id n) whe
 
   -- no component becomes installed
   pub covered-update : Covered T → (not (isInactive (n .phase)) ≡ true → notInactive (T .nodes) id ≡ true) → Covered (withNode T id n)
-  covered-update c f d m p a b = c d m p (was _ a) (at-set (λ i m. not (isInactive (m .phase)) ≡ true → notInactive (T .nodes) i ≡ true) (T .nodes) id n lt f (λ i h. h) (d .owner) b)
+  covered-update c f d m p a b = c d m p (was _ a) (at-set (λ i m. not (isInactive (m .phase)) ≡ true → notInactive (T .nodes) i ≡ true) (T .nodes) id n lt f (λ i h. h) (ownerIn d) b)
 
 pub fits-update : (S : Sizes) (T : Tables) (id : ℕ) (n : Node) → Fits S T → Fits S (withNode T id n)
 fits-update S T id n k = record { nodes = rw (length-set (T .nodes) id n) (k .nodes); declarations = k .declarations; links = k .links }
@@ -98,21 +91,46 @@ pub sound-update : (S : Sizes) (T : Tables) (id : ℕ) (n : Node) → Sound S T 
 sound-update S T id n k u f = record { sizes = fits-update S T id n (k .sizes); safe = safe-update T id n (k .safe) u; covered = covered-update T id n (k .safe) u (k .covered) f }
 
 -- other links
-pub safe-links : (T : Tables) (ls : List Link) → Safe T → ordered ls ≡ true → ((l : Link) → List·Memᴰ l ls → l .live ≡ true → LiveOk (T .nodes) (T .declarations) (l .consumer) (l .binding)) → Safe (withLinks T ls)
+pub safe-links : (T : Tables) (ls : List Link) → Safe T → ordered ls ≡ true → ((l : Link) → List·Memᴰ l ls → LinkOk (T .nodes) (T .declarations) l) → Safe (withLinks T ls)
 safe-links T ls k o v = record { owners = k .owners; unique = k .unique; nodes = k .nodes; live = v; order = o }
 
+-- what holds of the two declarations that each live link names
+abbrev pub LiveLinks : Tables → (Declaration → Type 0) → Type 0
+LiveLinks T P = (l : Link) → List·Memᴰ l (T .links) → l .live ≡ true → P (dependency (consumerIn l) (portIn l)) × P (provision (providerIn l) (portIn l))
+
 -- other declarations, among them those that the live links name
-pub safe-declarations : (T : Tables) (ds : List Declaration) → Safe T → ((d : Declaration) → List·Memᴰ d ds → d .owner < length (T .nodes)) → Unique (T .nodes) ds → ((l : Link) → List·Memᴰ l (T .links) → l .live ≡ true → List·Memᴰ (dependency (l .consumer) (portOf (l .binding))) ds × List·Memᴰ (provision (l .binding .provider) (portOf (l .binding))) ds) → Safe (withDeclarations T ds)
+pub safe-declarations :
+    (T : Tables) (ds : List Declaration)
+    → Safe T
+    → ((d : Declaration) → List·Memᴰ d ds → ownerIn d < length (T .nodes))
+    → Unique (T .nodes) ds
+    → LiveLinks T (λ d. List·Memᴰ d ds)
+    → Safe (withDeclarations T ds)
 safe-declarations T ds k o q v = record { owners = o; unique = q; nodes = k .nodes; live = live; order = k .order }
   where
-    live : (l : Link) → List·Memᴰ l (T .links) → l .live ≡ true → LiveOk (T .nodes) ds (l .consumer) (l .binding)
+    live : (l : Link) → List·Memᴰ l (T .links) → LinkOk (T .nodes) ds l
     live l m h =
-        let w : LiveOk (T .nodes) (T .declarations) (l .consumer) (l .binding) = k .live l m h in
-        record { consumer-present = w .consumer-present; consumer-installed = w .consumer-installed; provider-present = w .provider-present; provider-installed = w .provider-installed; provider-kept = w .provider-kept; needed = (v l m h) .0; offered = (v l m h) .1 }
+        let w : LiveOk (T .nodes) (T .declarations) (consumerIn l) (bindingIn l) = k .live l m h in
+        record {
+          consumer-present = w .consumer-present;
+          consumer-installed = w .consumer-installed;
+          provider-present = w .provider-present;
+          provider-installed = w .provider-installed;
+          provider-kept = w .provider-kept;
+          needed = (v l m h) .0;
+          offered = (v l m h) .1;
+        }
 
 -- a node that stays present, and installed if it was
 module _ (T : Tables) (id : ℕ) (n : Node) where
-  pub calm : Safe T → present (T .nodes) id ≡ true → n .parent ≡ (nodeAt (T .nodes) id) .parent → n .present ≡ true → (notInactive (T .nodes) id ≡ true → not (isInactive (n .phase)) ≡ true) → (n .restoring ≡ true → ((nodeAt (T .nodes) id) .restoring ≡ true) × (isUnloading (n .phase) ≡ true)) → Update T id n
+  pub calm :
+      Safe T
+      → present (T .nodes) id ≡ true
+      → parentIn n ≡ parentIn (nodeAt (T .nodes) id)
+      → n .present ≡ true
+      → (notInactive (T .nodes) id ≡ true → not (isInactive (n .phase)) ≡ true)
+      → (n .restoring ≡ true → ((nodeAt (T .nodes) id) .restoring ≡ true) × (isUnloading (n .phase) ≡ true))
+      → Update T id n
   calm k h par pr ins res = record {
     there = h;
     parent-ok = λ a. rw par (k .nodes id .parent-ok h);
@@ -129,7 +147,7 @@ module _ (T : Tables) (id : ℕ) (n : Node) where
       go a (inr r) = r
 
 -- fewer declarations, with those that the live links name
-pub sub-declarations : {S : Sizes} {T : Tables} → Sound S T → (q : Declaration → Bool) → ((l : Link) → List·Memᴰ l (T .links) → l .live ≡ true → (q (dependency (l .consumer) (portOf (l .binding))) ≡ true) × (q (provision (l .binding .provider) (portOf (l .binding))) ≡ true)) → Sound S (withDeclarations T (keep q (T .declarations)))
+pub sub-declarations : {S : Sizes} {T : Tables} → Sound S T → (q : Declaration → Bool) → LiveLinks T (λ d. q d ≡ true) → Sound S (withDeclarations T (keep q (T .declarations)))
 sub-declarations {S} {T} k q f = record {
   sizes = record { nodes = k .sizes .nodes; declarations = le-trans (length-keep q (T .declarations)) (k .sizes .declarations); links = k .sizes .links };
   safe = safe-declarations T (keep q (T .declarations)) (k .safe)

@@ -1,31 +1,11 @@
 -- begin keeps soundness: the node starts, and the target's bindings become live links behind the others.
-use mathlib.Core.Path.{_∙_, _≡_, ap, refl, sym}
-use mathlib.Core.Bool.{false, not, true}
-use mathlib.Core.List.{List, List·Memᴰ, List·Memᴰ·append-cases, Memᴰ·append-left, Memᴰ·append-right, Memᴰ·cast, _++_, map}
-use mathlib.Core.Logic.{_⊎_, inl, inr}
-use Prim.Native.Nat.{_+_, _<_, _≤_, ℕ}
-use native.Mathlib.Decide.{ℕ-discrete}
-use lib.ListN.{length, length-append, length-map, length-set, set}
-use borrow.Author.Tests.{ltb-false}
-use Rattle.model.specs.declared.Binding.{Binding}
-use Rattle.model.specs.declared.Link.{Link}
-use Rattle.model.specs.declared.Node.{Node}
-use Rattle.model.proofs.Laws.Booleans.{clash, not-f}
-use Rattle.model.proofs.Laws.Facts.{Covered, Fits, Linked, LiveOk, Safe, Sound, not-restoring}
-use Rattle.model.proofs.Laws.Lists.{in-map, is-some, map-in}
-use Rattle.model.proofs.Laws.Nodes.{at-other, at-set, at-set-other, present-lt}
-use Rattle.model.proofs.Laws.Order.{apart-of, ordered-all, ordered-append}
-use Rattle.model.proofs.Laws.Phases.{active-installed, active-stays, inactive-stays}
-use Rattle.model.proofs.Laws.Refusals.{Passed}
-use Rattle.model.proofs.Laws.Resolution.{Resolved, Targeted, target-covers, target-needed, target-resolved, targeted}
-use Rattle.model.proofs.Laws.Update.{calm, safe-links, safe-update}
-use Rattle.model.specs.Lifecycle.{beginTests, begun, begunNode, phaseAt}
-use Rattle.model.specs.Records.{isInactive, liveLink, portOf}
-use Rattle.model.specs.Resolution.{target}
-use Rattle.model.specs.Samples.{port}
-use Rattle.model.specs.Sizes.{Sizes}
-use Rattle.model.specs.Soundness.{ordered}
-use Rattle.model.specs.Tables.{Tables, nodeAt, notInactive, present, withLinks, withNode}
+use mathlib.Core.{Bool.false, Bool.true, List.List, List.List·Memᴰ, List.List·Memᴰ·append-cases, List.Memᴰ·append-left, List.Memᴰ·append-right, List.Memᴰ·cast, List._++_, List.map, Logic._⊎_, Logic.inl, Logic.inr, Path._∙_, Path._≡_, Path.ap, Path.refl, Path.sym}
+use Prim.Native.{Nat._+_, Nat._<_, Nat._≤_, Nat.ℕ}
+use native.Mathlib.{Decide.ℕ-discrete}
+use lib.{ListN.length, ListN.length-append, ListN.length-map, ListN.length-set, ListN.set}
+use borrow.{Author.Tests.ltb-false}
+use Rattle.model.specs.{Lifecycle.beginTests, Lifecycle.begun, Lifecycle.begunNode, Lifecycle.phaseAt, Records.bindingIn, Records.consumerIn, Records.declaredPort, Records.dependency, Records.isInactive, Records.liveLink, Records.ownerIn, Records.portOf, Records.providerIn, Resolution.target, Sizes.Sizes, Soundness.ordered, Tables.Tables, Tables.nodeAt, Tables.notInactive, Tables.present, Tables.withLinks, Tables.withNode, declared.Binding.Binding, declared.records.Link.Link, declared.records.Node.Node}
+use Rattle.model.proofs.{Laws.Booleans.clash, Laws.Booleans.not-f, Laws.Facts.Covered, Laws.Facts.Fits, Laws.Facts.Linked, Laws.Facts.LiveOk, Laws.Facts.Safe, Laws.Facts.Sound, Laws.Facts.not-restoring, Laws.Lists.in-map, Laws.Lists.is-some, Laws.Lists.map-in, Laws.Nodes.at-other, Laws.Nodes.at-set, Laws.Nodes.at-set-other, Laws.Nodes.present-lt, Laws.Order.apart-of, Laws.Order.ordered-all, Laws.Order.ordered-append, Laws.Phases.active-installed, Laws.Phases.active-stays, Laws.Phases.inactive-stays, Laws.Records.declaration-is, Laws.Refusals.Passed, Laws.Resolution.Resolved, Laws.Resolution.Targeted, Laws.Resolution.target-covers, Laws.Resolution.target-needed, Laws.Resolution.target-resolved, Laws.Resolution.targeted, Laws.Update.Serves, Laws.Update.Stands, Laws.Update.calm, Laws.Update.safe-links, Laws.Update.safe-update}
 
 module _ (S : Sizes) (T : Tables) (id : ℕ) (bs : List Binding) (k : Sound S T) (t : Targeted T id bs) (q : isInactive ((nodeAt (T .nodes) id) .phase) ≡ true) where
   abbrev started : Node
@@ -47,8 +27,10 @@ module _ (S : Sizes) (T : Tables) (id : ℕ) (bs : List Binding) (k : Sound S T)
   fresh-live b m =
       let lt : id < length (T .nodes) = present-lt (T .nodes) id (t .there) in
       let r : Resolved (T .nodes) (T .declarations) (portOf b) (b .provider) = target-resolved T id bs t b m in
-      let c : (i : ℕ) → i ≡ id → (present (set (T .nodes) id started) i ≡ true) × (notInactive (set (T .nodes) id started) i ≡ true) = at-set-other (λ i n. i ≡ id → (n .present ≡ true) × (not (isInactive (n .phase)) ≡ true)) (T .nodes) id started lt (λ e. (t .there, refl)) (λ i ne e. absurd (ne e)) in
-      let p : (i : ℕ) → i ≡ b .provider → (present (set (T .nodes) id started) i ≡ true) × (notInactive (set (T .nodes) id started) i ≡ true) × ((nodeAt (set (T .nodes) id started) i) .restoring ≡ false) = at-set (λ i n. i ≡ b .provider → (n .present ≡ true) × (not (isInactive (n .phase)) ≡ true) × (n .restoring ≡ false)) (T .nodes) id started lt (λ e. (t .there, refl, not-restoring-id)) (λ i e. rw e (r .there, active-installed (phaseAt T (b .provider)) (r .is-active), not-restoring (T .nodes) _ _ (k .safe .nodes (b .provider)) (active-stays (phaseAt T (b .provider)) (r .is-active)))) in
+      let c = at-set-other (λ i n. i ≡ id → Stands n) (T .nodes) id started lt (λ e. (t .there, refl)) (λ i ne e. absurd (ne e)) in
+      let kept = not-restoring (T .nodes) _ _ (k .safe .nodes (b .provider)) (active-stays (phaseAt T (b .provider)) (r .is-active)) in
+      let served : Serves (nodeAt (T .nodes) (b .provider)) = (r .there, active-installed (phaseAt T (b .provider)) (r .is-active), kept) in
+      let p = at-set (λ i n. i ≡ b .provider → Serves n) (T .nodes) id started lt (λ e. (t .there, refl, not-restoring-id)) (λ i e. rw e served) in
       record {
         consumer-present = (c _ refl) .0;
         consumer-installed = (c _ refl) .1;
@@ -61,32 +43,35 @@ module _ (S : Sizes) (T : Tables) (id : ℕ) (bs : List Binding) (k : Sound S T)
 
   begin-order : ordered (T .links ++ fresh) ≡ true
   begin-order = ordered-append (T .links) fresh (k .safe .order)
-      (ordered-all fresh (λ l m x y. apart-of l m (λ a b e. let (c, n, f) = in-map (liveLink id) bs x in let (c′, n′, f′) = in-map (liveLink id) bs y in clash _ (active-installed (phaseAt T id) (rw (provider-is l m c c′ f f′ e) at (target-resolved T id bs t c n .is-active))) idle-id)))
-      (λ l m x y. apart-of l m (λ a b e. let (c, n, f) = in-map (liveLink id) bs y in clash _ (rw (e ∙ ap (λ (z : Link). z .consumer) f) at (k .safe .live l x a .provider-installed)) idle-id))
+      (ordered-all fresh (λ l m x y. apart-of l m (λ a b e.
+      let (c, n, f) = in-map (liveLink id) bs x in
+      let (c′, n′, f′) = in-map (liveLink id) bs y in
+      clash _ (active-installed (phaseAt T id) (rw (provider-is l m c c′ f f′ e) at (target-resolved T id bs t c n .is-active))) idle-id)))
+      (λ l m x y. apart-of l m (λ a b e. let (c, n, f) = in-map (liveLink id) bs y in clash _ (rw (e ∙ ap consumerIn f) at (k .safe .live l x a .provider-installed)) idle-id))
     where
-      provider-is : (l m : Link) (c c′ : Binding) → l ≡ liveLink id c → m ≡ liveLink id c′ → l .binding .provider ≡ m .consumer → c .provider ≡ id
-      provider-is l m c c′ f f′ e = sym (ap (λ (z : Link). z .binding .provider) f) ∙ e ∙ ap (λ (z : Link). z .consumer) f′
+      provider-is : (l m : Link) (c c′ : Binding) → l ≡ liveLink id c → m ≡ liveLink id c′ → providerIn l ≡ consumerIn m → c .provider ≡ id
+      provider-is l m c c′ f f′ e = sym (ap (λ (z : Link). providerIn z) f) ∙ e ∙ ap consumerIn f′
 
   begin-safe : Safe (withLinks (withNode T id started) (T .links ++ fresh))
   begin-safe = safe-links (withNode T id started) (T .links ++ fresh) begin-update begin-order (λ l m v. go l v (List·Memᴰ·append-cases (T .links) m))
     where
-      go : (l : Link) → l .live ≡ true → List·Memᴰ l (T .links) ⊎ List·Memᴰ l fresh → LiveOk (set (T .nodes) id started) (T .declarations) (l .consumer) (l .binding)
+      go : (l : Link) → l .live ≡ true → List·Memᴰ l (T .links) ⊎ List·Memᴰ l fresh → LiveOk (set (T .nodes) id started) (T .declarations) (consumerIn l) (bindingIn l)
       go l v (inl m) = begin-update .live l m v
       go l v (inr m) = let (b, n, e) = in-map (liveLink id) bs m in rw e (fresh-live b n)
 
   begin-covered : Covered (withLinks (withNode T id started) (T .links ++ fresh))
-  begin-covered d m p a b = go (ℕ-discrete (d .owner) id)
+  begin-covered d m p a b = go (ℕ-discrete (ownerIn d) id)
     where
       lt : id < length (T .nodes)
       lt = present-lt (T .nodes) id (t .there)
 
-      go : Dec (d .owner ≡ id) → Linked (T .links ++ fresh) (d .owner) (d .port)
+      go : Dec (ownerIn d ≡ id) → Linked (T .links ++ fresh) (ownerIn d) (declaredPort d)
       go (yes e) =
-          let (c, n, f) = target-covers T id bs t (d .port) (Memᴰ·cast (λ i. record { owner = sym e i; port = d .port; provides = sym p i }) m) in
+          let (c, n, f) = target-covers T id bs t (declaredPort d) (Memᴰ·cast (declaration-is {d = dependency id (declaredPort d)} (sym e) refl (sym p)) m) in
           record { link = liveLink id c; among = Memᴰ·append-right (T .links) (map-in (liveLink id) n); is-live = refl; of-consumer = sym e; of-port = sym f }
       go (no ne) =
-          let e : nodeAt (set (T .nodes) id started) (d .owner) ≡ nodeAt (T .nodes) (d .owner) = at-other (T .nodes) id (d .owner) started ne in
-          let c : Linked (T .links) (d .owner) (d .port) = k .covered d m p (rw (e, present) at a) (rw (e, notInactive) at b) in
+          let e : nodeAt (set (T .nodes) id started) (ownerIn d) ≡ nodeAt (T .nodes) (ownerIn d) = at-other (T .nodes) id (ownerIn d) started ne in
+          let c : Linked (T .links) (ownerIn d) (declaredPort d) = k .covered d m p (rw (e, present) at a) (rw (e, notInactive) at b) in
           record { link = c .link; among = Memᴰ·append-left fresh (c .among); is-live = c .is-live; of-consumer = c .of-consumer; of-port = c .of-port }
 
   begin-fits : length (T .links) + length bs ≤ S .links → Fits S (withLinks (withNode T id started) (T .links ++ fresh))

@@ -1,21 +1,8 @@
 -- Every command keeps soundness, and so does every list of commands from the empty kernel.
-use mathlib.Core.Path.{_≡_, refl}
-use mathlib.Core.Bool.{true}
-use mathlib.Core.List.{List, List·Memᴰ·not-nil, [], _∷_}
-use native.Mathlib.Omega.{arith}
-use Rattle.model.proofs.Laws.Facts.{Sound, blank-ok, facts, of-facts}
-use Rattle.model.proofs.Laws.Refusals.{Passed, step-keeps}
-use Rattle.model.proofs.Theorems.Begin.{begun-sound}
-use Rattle.model.proofs.Theorems.Compaction.{bindingsCompacted-sound, declarationsCompacted-sound}
-use Rattle.model.proofs.Theorems.FinishCleanup.{cleanupFinished-sound}
-use Rattle.model.proofs.Theorems.Insertion.{inserted-sound}
-use Rattle.model.proofs.Theorems.Interface.{dependenciesConfigured-sound, provisionDeclared-sound, provisionReleased-sound}
-use Rattle.model.proofs.Theorems.Lifecycle.{cleanupBegun-sound, finished-sound, left-sound, removedFrom-sound, retiredFrom-sound}
-use Rattle.model.specs.Commands.{Command, result, run, runFrom, step, tests}
-use Rattle.model.specs.Lists.{onward}
-use Rattle.model.specs.Sizes.{Sizes}
-use Rattle.model.specs.Soundness.{sound}
-use Rattle.model.specs.Tables.{Tables, empty, nodeAt}
+use mathlib.Core.{Bool.true, List.List, List.List·Memᴰ·not-nil, List.[], List._∷_, Path._≡_, Path.refl}
+use native.Mathlib.{Omega.arith}
+use Rattle.model.proofs.{Laws.Facts.Sound, Laws.Facts.blank-ok, Laws.Facts.facts, Laws.Facts.of-facts, Laws.Refusals.Passed, Laws.Refusals.step-keeps, Theorems.Begin.begun-sound, Theorems.Compaction.bindingsCompacted-sound, Theorems.Compaction.declarationsCompacted-sound, Theorems.FinishCleanup.cleanupFinished-sound, Theorems.Insertion.inserted-sound, Theorems.Interface.dependenciesConfigured-sound, Theorems.Interface.provisionDeclared-sound, Theorems.Interface.provisionReleased-sound, Theorems.Lifecycle.cleanupBegun-sound, Theorems.Lifecycle.finished-sound, Theorems.Lifecycle.left-sound, Theorems.Lifecycle.removedFrom-sound, Theorems.Lifecycle.retiredFrom-sound}
+use Rattle.model.specs.{Commands.Command, Commands.result, Commands.run, Commands.runFrom, Commands.step, Commands.tests, Lists.onward, Sizes.Sizes, Soundness.sound, Tables.Tables, Tables.empty, Tables.nodeAt}
 
 pub result-sound : (S : Sizes) (T : Tables) (c : Command) → Sound S T → Passed (tests S T c) → Sound S (result T c)
 result-sound S T (Command.insert q ds ps) k p = inserted-sound S T q ds ps k p
@@ -34,7 +21,17 @@ result-sound S T Command.compactBindings k p = bindingsCompacted-sound S T k
 result-sound S T Command.compactDeclarations k p = declarationsCompacted-sound S T k
 
 pub empty-sound : (S : Sizes) → sound S empty ≡ true
-empty-sound S = of-facts S empty (record { sizes = record { nodes = omega arith; declarations = omega arith; links = omega arith }; safe = record { owners = λ d m. absurd (List·Memᴰ·not-nil m); unique = λ d e m. absurd (List·Memᴰ·not-nil m); nodes = λ i. unfold nodeAt in blank-ok [] i; live = λ l m. absurd (List·Memᴰ·not-nil m); order = unfold onward in refl }; covered = λ d m. absurd (List·Memᴰ·not-nil m) })
+empty-sound S = of-facts S empty (record {
+  sizes = record { nodes = omega arith; declarations = omega arith; links = omega arith };
+  safe = record {
+    owners = λ d m. absurd (List·Memᴰ·not-nil m);
+    unique = λ d e m. absurd (List·Memᴰ·not-nil m);
+    nodes = λ i. unfold nodeAt in blank-ok [] i;
+    live = λ l m. absurd (List·Memᴰ·not-nil m);
+    order = unfold onward in refl;
+  };
+  covered = λ d m. absurd (List·Memᴰ·not-nil m);
+})
 
 pub step-sound : (S : Sizes) (T : Tables) (c : Command) → sound S T ≡ true → sound S ((step S T c) .tables) ≡ true
 step-sound S T c h = step-keeps (λ U. sound S U ≡ true) S T c h (λ p. of-facts S (result T c) (result-sound S T c (facts S T h) p))

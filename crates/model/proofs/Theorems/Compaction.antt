@@ -1,21 +1,15 @@
 -- The compactions keep soundness.
-use native.Mathlib.Nat.{le-trans}
-use Rattle.model.proofs.Laws.Facts.{Linked, Sound}
-use Rattle.model.proofs.Laws.Lists.{in-keep, keep-in, length-keep}
-use Rattle.model.proofs.Laws.Order.{ordered-keep}
-use Rattle.model.proofs.Laws.Update.{safe-links, sub-declarations}
-use Rattle.model.specs.Compaction.{bindingsCompacted, declarationsCompacted}
-use Rattle.model.specs.Lists.{keep}
-use Rattle.model.specs.Sizes.{Sizes}
-use Rattle.model.specs.Tables.{Tables, present}
+use native.Mathlib.{Nat.le-trans}
+use Rattle.model.proofs.{Laws.Facts.Sound, Laws.Lists.in-keep, Laws.Lists.keep-in, Laws.Lists.length-keep, Laws.Order.ordered-keep, Laws.Update.safe-links, Laws.Update.sub-declarations}
+use Rattle.model.specs.{Compaction.bindingsCompacted, Compaction.declarationsCompacted, Lists.keep, Records.isLive, Records.ownerIn, Sizes.Sizes, Tables.Tables, Tables.present}
 
 module _ (S : Sizes) (T : Tables) (k : Sound S T) where
   pub bindingsCompacted-sound : Sound S (bindingsCompacted T)
   bindingsCompacted-sound = record {
     sizes = record { nodes = k .sizes .nodes; declarations = k .sizes .declarations; links = le-trans (length-keep _ (T .links)) (k .sizes .links) };
-    safe = safe-links T (keep (λ l. l .live) (T .links)) (k .safe) (ordered-keep _ (T .links) (k .safe .order)) (λ l m v. k .safe .live l ((in-keep _ (T .links) m) .0) v);
-    covered = λ d m q a b. let c : Linked (T .links) (d .owner) (d .port) = k .covered d m q a b in record { link = c .link; among = keep-in _ (c .among) (c .is-live); is-live = c .is-live; of-consumer = c .of-consumer; of-port = c .of-port };
+    safe = safe-links T (keep isLive (T .links)) (k .safe) (ordered-keep _ (T .links) (k .safe .order)) (λ l m v. k .safe .live l ((in-keep _ (T .links) m) .0) v);
+    covered = λ d m q a b. let c = k .covered d m q a b in record { link = c .link; among = keep-in _ (c .among) (c .is-live); is-live = c .is-live; of-consumer = c .of-consumer; of-port = c .of-port };
   }
 
   pub declarationsCompacted-sound : Sound S (declarationsCompacted T)
-  declarationsCompacted-sound = sub-declarations k (λ d. present (T .nodes) (d .owner)) (λ l m v. (k .safe .live l m v .consumer-present, k .safe .live l m v .provider-present))
+  declarationsCompacted-sound = sub-declarations k (λ d. present (T .nodes) (ownerIn d)) (λ l m v. (k .safe .live l m v .consumer-present, k .safe .live l m v .provider-present))

@@ -1,49 +1,44 @@
 -- finish_cleanup keeps soundness: the links of the consumer become dead.
-use mathlib.Core.Path.{_∙_, _≡_, ap, refl, sym}
-use mathlib.Core.Bool.{false, not, true}
-use mathlib.Core.List.{List, List·Memᴰ, map}
-use Prim.Native.Nat.{_<_, ℕ}
-use native.Mathlib.Omega.{arith}
-use lib.ListN.{length, length-map, length-set}
-use borrow.Author.Tests.{eq-eqb, ne-eqb}
-use Rattle.model.specs.declared.Link.{Link}
-use Rattle.model.specs.declared.Node.{Node}
-use Rattle.model.specs.declared.Port.{Port}
-use Rattle.model.proofs.Laws.Booleans.{and-i, and-l, and-r, clash, f-not, not-f, not-t}
-use Rattle.model.proofs.Laws.Facts.{Covered, Linked, Safe, Sound}
-use Rattle.model.proofs.Laws.Lists.{in-map, map-in}
-use Rattle.model.proofs.Laws.Nodes.{at-set, at-set-other, present-lt}
-use Rattle.model.proofs.Laws.Order.{apart-of, of-apart, ordered-map}
-use Rattle.model.proofs.Laws.Refusals.{Passed}
-use Rattle.model.proofs.Laws.Update.{safe-links, safe-update}
-use Rattle.model.specs.Lifecycle.{cleanupFinished, finishCleanupTests}
-use Rattle.model.specs.Records.{deadFor, isInactive, restoredNode}
-use Rattle.model.specs.Sizes.{Sizes}
-use Rattle.model.specs.Soundness.{apart}
-use Rattle.model.specs.Tables.{Tables, nodeAt, notInactive, present, withLinks, withNode}
+use mathlib.Core.{Bool.false, Bool.not, Bool.true, List.List, List.List·Memᴰ, List.map, Path._∙_, Path._≡_, Path.ap, Path.refl, Path.sym}
+use Prim.Native.{Nat._<_, Nat.ℕ}
+use native.Mathlib.{Omega.arith}
+use lib.{ListN.length, ListN.length-map, ListN.length-set}
+use borrow.{Author.Tests.eq-eqb, Author.Tests.ne-eqb}
+use Rattle.model.specs.{Lifecycle.cleanupFinished, Lifecycle.finishCleanupTests, Records.consumerIn, Records.deadFor, Records.declaredPort, Records.isInactive, Records.ownerIn, Records.restoredNode, Sizes.Sizes, Soundness.apart, Tables.Tables, Tables.nodeAt, Tables.notInactive, Tables.present, Tables.withLinks, Tables.withNode, declared.Port.Port, declared.records.Link.Link, declared.records.Node.Node}
+use Rattle.model.proofs.{Laws.Booleans.and-i, Laws.Booleans.and-l, Laws.Booleans.and-r, Laws.Booleans.clash, Laws.Booleans.f-not, Laws.Booleans.not-f, Laws.Booleans.not-t, Laws.Facts.Covered, Laws.Facts.Linked, Laws.Facts.Safe, Laws.Facts.Sound, Laws.Lists.in-map, Laws.Lists.map-in, Laws.Nodes.at-set, Laws.Nodes.at-set-other, Laws.Nodes.present-lt, Laws.Order.apart-of, Laws.Order.of-apart, Laws.Order.ordered-map, Laws.Refusals.Passed, Laws.Update.safe-links, Laws.Update.safe-update}
 
-pub dead-live : (id : ℕ) (l : Link) → (deadFor id l) .live ≡ true → (l .live ≡ true) × (l .consumer ≡ id → ⊥)
-dead-live id l h = (and-l (l .live) _ h, λ e. clash {A = ⊥} _ (eq-eqb (l .consumer) id e) (not-t _ (and-r (l .live) _ h)))
+pub dead-live : (id : ℕ) (l : Link) → (deadFor id l) .live ≡ true → (l .live ≡ true) × (consumerIn l ≡ id → ⊥)
+dead-live id l h = (and-l (l .live) _ h, λ e. clash {A = ⊥} _ (eq-eqb (consumerIn l) id e) (not-t _ (and-r (l .live) _ h)))
 
 pub dead-apart : (id : ℕ) (l m : Link) → apart l m ≡ true → apart (deadFor id l) (deadFor id m) ≡ true
 dead-apart id l m h = apart-of (deadFor id l) (deadFor id m) (λ a b e. of-apart l m h ((dead-live id l a) .0) ((dead-live id m b) .0) e)
 
 module _ (S : Sizes) (T : Tables) where
   dead-safe : (id : ℕ) → Safe T → Safe (withLinks T (map (deadFor id) (T .links)))
-  dead-safe id k = safe-links T (map (deadFor id) (T .links)) k (ordered-map (deadFor id) (dead-apart id) (T .links) (k .order)) (λ l m v. let (o, n, e) = in-map (deadFor id) (T .links) m in rw e (k .live o n ((dead-live id o (rw e at v)) .0)))
+  dead-safe id k = safe-links T (map (deadFor id) (T .links)) k (ordered-map (deadFor id) (dead-apart id) (T .links) (k .order)) (λ l m v.
+      let (o, n, e) = in-map (deadFor id) (T .links) m in
+      rw e (k .live o n ((dead-live id o (rw e at v)) .0)))
 
-  dead-consumer : (id : ℕ) (l : Link) → List·Memᴰ l (map (deadFor id) (T .links)) → l .live ≡ true → l .consumer ≡ id → ⊥
-  dead-consumer id l m v c = let (o, n, e) = in-map (deadFor id) (T .links) m in (dead-live id o (rw e at v)) .1 (sym (ap (λ (x : Link). x .consumer) e) ∙ c)
+  dead-consumer : (id : ℕ) (l : Link) → List·Memᴰ l (map (deadFor id) (T .links)) → l .live ≡ true → consumerIn l ≡ id → ⊥
+  dead-consumer id l m v c = let (o, n, e) = in-map (deadFor id) (T .links) m in (dead-live id o (rw e at v)) .1 (sym (ap consumerIn e) ∙ c)
 
   dead-linked : (id o : ℕ) (p : Port) → (o ≡ id → ⊥) → Linked (T .links) o p → Linked (map (deadFor id) (T .links)) o p
-  dead-linked id o p d c = record { link = deadFor id (c .link); among = map-in (deadFor id) (c .among); is-live = and-i (c .link .live) _ (c .is-live) (f-not _ (ne-eqb _ _ (λ e. d (sym (c .of-consumer) ∙ e)))); of-consumer = c .of-consumer; of-port = c .of-port }
+  dead-linked id o p d c = record {
+    link = deadFor id (c .link);
+    among = map-in (deadFor id) (c .among);
+    is-live = and-i (c .link .live) _ (c .is-live) (f-not _ (ne-eqb _ _ (λ e. d (sym (c .of-consumer) ∙ e))));
+    of-consumer = c .of-consumer;
+    of-port = c .of-port;
+  }
 
   dead-covered : (id : ℕ) → Sound S T → present (T .nodes) id ≡ true → Covered (withNode (withLinks T (map (deadFor id) (T .links))) id (restoredNode (nodeAt (T .nodes) id)))
   dead-covered id k t d m q a b =
       let lt : id < length (T .nodes) = present-lt (T .nodes) id t in
-      let a′ : present (T .nodes) (d .owner) ≡ true = at-set (λ i n. n .present ≡ true → present (T .nodes) i ≡ true) (T .nodes) id (restoredNode (nodeAt (T .nodes) id)) lt (λ x. t) (λ i x. x) (d .owner) a in
-      let b′ : (d .owner ≡ id → ⊥) × (notInactive (T .nodes) (d .owner) ≡ true) = at-set-other (λ i n. not (isInactive (n .phase)) ≡ true → (i ≡ id → ⊥) × (notInactive (T .nodes) i ≡ true)) (T .nodes) id (restoredNode (nodeAt (T .nodes) id)) lt (λ x. clash false x refl) (λ i ne x. (ne, x)) (d .owner) b in
-      dead-linked id (d .owner) (d .port) (b′ .0) (k .covered d m q a′ (b′ .1))
+      let n = restoredNode (nodeAt (T .nodes) id) in
+      let a′ : present (T .nodes) (ownerIn d) ≡ true = at-set (λ i n. n .present ≡ true → present (T .nodes) i ≡ true) (T .nodes) id n lt (λ x. t) (λ i x. x) (ownerIn d) a in
+      let other : ℕ → Type 0 = λ i. (i ≡ id → ⊥) × (notInactive (T .nodes) i ≡ true) in
+      let b′ : other (ownerIn d) = at-set-other (λ i n. not (isInactive (n .phase)) ≡ true → other i) (T .nodes) id n lt (λ x. clash false x refl) (λ i ne x. (ne, x)) (ownerIn d) b in
+      dead-linked id (ownerIn d) (declaredPort d) (b′ .0) (k .covered d m q a′ (b′ .1))
 
   pub cleanupFinished-sound : (id : ℕ) → Sound S T → Passed (finishCleanupTests T id) → Sound S (cleanupFinished T id)
   cleanupFinished-sound id k p =
@@ -52,7 +47,11 @@ module _ (S : Sizes) (T : Tables) where
       let r : n .restoring ≡ true = not-f _ (p .1 .0) in
       let L : List Link = map (deadFor id) (T .links) in
       record {
-        sizes = record { nodes = rw (length-set (T .nodes) id (restoredNode n)) (k .sizes .nodes); declarations = k .sizes .declarations; links = omega (arith, length-map (T .links) (deadFor id), k .sizes .links) };
+        sizes = record {
+          nodes = rw (length-set (T .nodes) id (restoredNode n)) (k .sizes .nodes);
+          declarations = k .sizes .declarations;
+          links = omega (arith, length-map (T .links) (deadFor id), k .sizes .links);
+        };
         safe = safe-update (withLinks T L) id (restoredNode n) (dead-safe id (k .safe)) (record {
           there = t;
           parent-ok = λ a. k .safe .nodes id .parent-ok t;

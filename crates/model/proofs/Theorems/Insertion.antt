@@ -1,32 +1,11 @@
 -- Insertion keeps soundness.
-use mathlib.Core.Path.{_∙_, _≡_, ap, refl, sym}
-use mathlib.Core.Bool.{_||_, false, not, true}
-use mathlib.Core.List.{List, List·Memᴰ, List·Memᴰ·append-cases, Memᴰ·append-left, [], _++_, _∷_, map}
-use mathlib.Core.Logic.{_⊎_, inl, inr}
-use Prim.Native.Nat.{_+_, _<_, _≤_, ℕ}
-use native.Mathlib.Omega.{arith}
-use lib.Dec.{ltb}
-use lib.ListN.{length, length-append, length-map}
-use lib.Seq.{getD-append-seam}
-use borrow.Author.Tests.{leb-false, lt-ltb, ltb-false}
-use Rattle.model.specs.declared.Declaration.{Declaration}
-use Rattle.model.specs.declared.Node.{Node}
-use Rattle.model.specs.declared.Parent.{Parent}
-use Rattle.model.specs.declared.Port.{Port}
-use Rattle.model.specs.declared.PortList.{PortList}
-use Rattle.model.proofs.Laws.Booleans.{and-i, clash, not-f, or-f-r}
-use Rattle.model.proofs.Laws.Facts.{Linked, LiveOk, NodeOk, Sound}
-use Rattle.model.proofs.Laws.Lists.{in-map, none-in}
-use Rattle.model.proofs.Laws.Nodes.{at-snoc, old-at, parent-kept, present-lt}
-use Rattle.model.proofs.Laws.Refusals.{Passed}
-use Rattle.model.proofs.Theorems.Interface.{not-taken}
-use Rattle.model.specs.Insertion.{insertTests, inserted, parentPresent}
-use Rattle.model.specs.Interface.{distinct, listed, taken}
-use Rattle.model.specs.Lists.{any}
-use Rattle.model.specs.Records.{blankNode, dependency, isInactive, newNode, provision}
-use Rattle.model.specs.Sizes.{Sizes}
-use Rattle.model.specs.Soundness.{parentOk}
-use Rattle.model.specs.Tables.{Tables, nodeAt, notInactive, present}
+use mathlib.Core.{Bool._||_, Bool.false, Bool.not, Bool.true, List.List, List.List·Memᴰ, List.List·Memᴰ·append-cases, List.Memᴰ·append-left, List.[], List._++_, List._∷_, List.map, Logic._⊎_, Logic.inl, Logic.inr, Path._∙_, Path._≡_, Path.ap, Path.refl, Path.sym}
+use Prim.Native.{Nat._+_, Nat._<_, Nat._≤_, Nat.ℕ}
+use native.Mathlib.{Omega.arith}
+use lib.{Dec.ltb, ListN.length, ListN.length-append, ListN.length-map, Seq.getD-append-seam}
+use borrow.{Author.Tests.leb-false, Author.Tests.lt-ltb, Author.Tests.ltb-false}
+use Rattle.model.specs.{Insertion.insertTests, Insertion.inserted, Insertion.parentPresent, Interface.distinct, Interface.listed, Interface.taken, Lists.any, Records.bindingIn, Records.blankNode, Records.consumerIn, Records.declaredPort, Records.dependency, Records.isInactive, Records.newNode, Records.ownerIn, Records.parentIn, Records.providerIn, Records.provision, Sizes.Sizes, Soundness.parentOk, Tables.Tables, Tables.nodeAt, Tables.notInactive, Tables.present, declared.Parent.Parent, declared.Port.Port, declared.PortList.PortList, declared.records.Declaration.Declaration, declared.records.Node.Node}
+use Rattle.model.proofs.{Laws.Booleans.and-i, Laws.Booleans.clash, Laws.Booleans.not-f, Laws.Booleans.or-f-r, Laws.Facts.Linked, Laws.Facts.LiveOk, Laws.Facts.NodeOk, Laws.Facts.Sound, Laws.Lists.in-map, Laws.Lists.none-in, Laws.Nodes.at-snoc, Laws.Nodes.old-at, Laws.Nodes.parent-kept, Laws.Nodes.present-lt, Laws.Records.parent-read, Laws.Refusals.Passed, Theorems.Interface.not-taken}
 
 module _ (S : Sizes) (T : Tables) where
   parent-present-ok : (q : Parent) → parentPresent T q ≡ true → (ms : List Node) → ((i : ℕ) → present (T .nodes) i ≡ true → present ms i ≡ true) → parentOk ms (length (T .nodes)) q ≡ true
@@ -38,7 +17,18 @@ module _ (S : Sizes) (T : Tables) where
   unfolding nodeAt
   new-idle par = ap (λ (z : Node). not (isInactive (z .phase))) (getD-append-seam (T .nodes) (newNode par) [] blankNode)
 
-  add-node : (par : Parent) (ps qs : List Port) → Sound S T → length (T .nodes) < S .identities → parentPresent T par ≡ true → any (taken T) qs ≡ false → length (T .declarations) + length ps + length qs ≤ S .declarations → Sound S (record { nodes = T .nodes ++ (newNode par ∷ []); declarations = T .declarations ++ (map (dependency (length (T .nodes))) ps ++ map (provision (length (T .nodes))) qs); links = T .links })
+  -- one more node, with dependencies on these ports and provisions of those
+  abbrev grown : Parent → List Port → List Port → Tables
+  grown par ps qs = let id = length (T .nodes) in record { nodes = T .nodes ++ (newNode par ∷ []); declarations = T .declarations ++ (map (dependency id) ps ++ map (provision id) qs); links = T .links }
+
+  add-node :
+      (par : Parent) (ps qs : List Port)
+      → Sound S T
+      → length (T .nodes) < S .identities
+      → parentPresent T par ≡ true
+      → any (taken T) qs ≡ false
+      → length (T .declarations) + length ps + length qs ≤ S .declarations
+      → Sound S (grown par ps qs)
   add-node par ps qs k f g u w = record {
     sizes = record {
       nodes = rw (length-append (T .nodes) (newNode par ∷ [])) (omega arith);
@@ -49,12 +39,12 @@ module _ (S : Sizes) (T : Tables) where
       owners = λ d m. own d (List·Memᴰ·append-cases (T .declarations) m);
       unique = λ d e m n a b x y r. one d e (List·Memᴰ·append-cases (T .declarations) m) (List·Memᴰ·append-cases (T .declarations) n) a b x y r;
       nodes = at-snoc (λ i n. NodeOk ms i n) (T .nodes) (newNode par) new-node old-node;
-      live = λ l m v. let o : LiveOk (T .nodes) (T .declarations) (l .consumer) (l .binding) = k .safe .live l m v in record {
-        consumer-present = rw (same (l .consumer) (o .consumer-present), present) (o .consumer-present);
-        consumer-installed = rw (same (l .consumer) (o .consumer-present), notInactive) (o .consumer-installed);
-        provider-present = rw (same (l .binding .provider) (o .provider-present), present) (o .provider-present);
-        provider-installed = rw (same (l .binding .provider) (o .provider-present), notInactive) (o .provider-installed);
-        provider-kept = rw (same (l .binding .provider) (o .provider-present)) (o .provider-kept);
+      live = λ l m v. let o : LiveOk (T .nodes) (T .declarations) (consumerIn l) (bindingIn l) = k .safe .live l m v in record {
+        consumer-present = rw (same (consumerIn l) (o .consumer-present), present) (o .consumer-present);
+        consumer-installed = rw (same (consumerIn l) (o .consumer-present), notInactive) (o .consumer-installed);
+        provider-present = rw (same (providerIn l) (o .provider-present), present) (o .provider-present);
+        provider-installed = rw (same (providerIn l) (o .provider-present), notInactive) (o .provider-installed);
+        provider-kept = rw (same (providerIn l) (o .provider-present)) (o .provider-kept);
         needed = Memᴰ·append-left news (o .needed);
         offered = Memᴰ·append-left news (o .offered);
       };
@@ -66,6 +56,9 @@ module _ (S : Sizes) (T : Tables) where
       id : ℕ
       id = length (T .nodes)
 
+      OldOrNew : Declaration → Type 0
+      OldOrNew d = List·Memᴰ d (T .declarations) ⊎ List·Memᴰ d (map (dependency id) ps ++ map (provision id) qs)
+
       ms : List Node
       ms = T .nodes ++ (newNode par ∷ [])
 
@@ -75,25 +68,30 @@ module _ (S : Sizes) (T : Tables) where
       same : (i : ℕ) → present (T .nodes) i ≡ true → nodeAt ms i ≡ nodeAt (T .nodes) i
       same i a = old-at (T .nodes) (newNode par) i (present-lt _ _ a)
 
-      is-new : (d : Declaration) → List·Memᴰ d news → (d .owner ≡ id) × (d .provides ≡ true → (p : Port) × List·Memᴰ p qs × (d .port ≡ p))
+      is-new : (d : Declaration) → List·Memᴰ d news → (ownerIn d ≡ id) × (d .provides ≡ true → (p : Port) × List·Memᴰ p qs × (declaredPort d ≡ p))
       is-new d m = go (List·Memᴰ·append-cases (map (dependency id) ps) m)
         where
-          go : List·Memᴰ d (map (dependency id) ps) ⊎ List·Memᴰ d (map (provision id) qs) → (d .owner ≡ id) × (d .provides ≡ true → (p : Port) × List·Memᴰ p qs × (d .port ≡ p))
-          go (inl n) = let (p, x, e) = in-map (dependency id) ps n in (ap (λ (z : Declaration). z .owner) e, λ a. clash false (sym (ap (λ (z : Declaration). z .provides) e) ∙ a) refl)
-          go (inr n) = let (p, x, e) = in-map (provision id) qs n in (ap (λ (z : Declaration). z .owner) e, λ a. (p, x, ap (λ (z : Declaration). z .port) e))
+          go : List·Memᴰ d (map (dependency id) ps) ⊎ List·Memᴰ d (map (provision id) qs) → (ownerIn d ≡ id) × (d .provides ≡ true → (p : Port) × List·Memᴰ p qs × (declaredPort d ≡ p))
+          go (inl n) = let (p, x, e) = in-map (dependency id) ps n in (ap ownerIn e, λ a. clash false (sym (ap (λ (z : Declaration). z .provides) e) ∙ a) refl)
+          go (inr n) = let (p, x, e) = in-map (provision id) qs n in (ap ownerIn e, λ a. (p, x, ap declaredPort e))
 
-      own : (d : Declaration) → List·Memᴰ d (T .declarations) ⊎ List·Memᴰ d news → d .owner < length ms
+      own : (d : Declaration) → List·Memᴰ d (T .declarations) ⊎ List·Memᴰ d news → ownerIn d < length ms
       own d (inl m) = rw (length-append (T .nodes) (newNode par ∷ [])) (omega (arith, k .safe .owners d m))
       own d (inr m) = rw (length-append (T .nodes) (newNode par ∷ [])) (omega (arith, (is-new d m) .0))
 
       -- an old declaration's owner is present before
-      before : (d : Declaration) → List·Memᴰ d (T .declarations) → present ms (d .owner) ≡ true → present (T .nodes) (d .owner) ≡ true
-      before d m a = rw (old-at (T .nodes) (newNode par) (d .owner) (k .safe .owners d m), present) at a
+      before : (d : Declaration) → List·Memᴰ d (T .declarations) → present ms (ownerIn d) ≡ true → present (T .nodes) (ownerIn d) ≡ true
+      before d m a = rw (old-at (T .nodes) (newNode par) (ownerIn d) (k .safe .owners d m), present) at a
 
-      free : (d e : Declaration) → List·Memᴰ d (T .declarations) → List·Memᴰ e news → d .provides ≡ true → e .provides ≡ true → present ms (d .owner) ≡ true → d .port ≡ e .port → ⊥
+      free : (d e : Declaration) → List·Memᴰ d (T .declarations) → List·Memᴰ e news → d .provides ≡ true → e .provides ≡ true → present ms (ownerIn d) ≡ true → declaredPort d ≡ declaredPort e → ⊥
       free d e m n a b x r = let (p, q, z) = (is-new e n) .1 b in not-taken T p (none-in (taken T) q u) d m a (before d m x) (r ∙ z)
 
-      one : (d e : Declaration) → List·Memᴰ d (T .declarations) ⊎ List·Memᴰ d news → List·Memᴰ e (T .declarations) ⊎ List·Memᴰ e news → d .provides ≡ true → e .provides ≡ true → present ms (d .owner) ≡ true → present ms (e .owner) ≡ true → d .port ≡ e .port → d .owner ≡ e .owner
+      one :
+          (d e : Declaration) → OldOrNew d → OldOrNew e
+          → d .provides ≡ true → e .provides ≡ true
+          → present ms (ownerIn d) ≡ true → present ms (ownerIn e) ≡ true
+          → declaredPort d ≡ declaredPort e
+          → ownerIn d ≡ ownerIn e
       one d e (inl m) (inl n) a b x y r = k .safe .unique d e m n a b (before d m x) (before e n y) r
       one d e (inl m) (inr n) a b x y r = absurd (free d e m n a b x r)
       one d e (inr m) (inl n) a b x y r = absurd (free e d n m b a y (sym r))
@@ -103,14 +101,28 @@ module _ (S : Sizes) (T : Tables) where
       still i a = rw (same i a, present) a
 
       new-node : NodeOk ms id (newNode par)
-      new-node = record { absent-inactive = λ a. clash true refl a; absent-kept = λ a. refl; restoring-present = λ a. refl; restoring-unloading = λ a. clash false a refl; parent-ok = λ a. parent-present-ok par g ms still }
+      new-node = record {
+        absent-inactive = λ a. clash true refl a;
+        absent-kept = λ a. refl;
+        restoring-present = λ a. refl;
+        restoring-unloading = λ a. clash false a refl;
+        parent-ok = λ a. rw (parent-read par) (parent-present-ok par g ms still);
+      }
 
       old-node : (i : ℕ) → NodeOk ms i (nodeAt (T .nodes) i)
-      old-node i = let o : NodeOk (T .nodes) i (nodeAt (T .nodes) i) = k .safe .nodes i in record { absent-inactive = o .absent-inactive; absent-kept = o .absent-kept; restoring-present = o .restoring-present; restoring-unloading = o .restoring-unloading; parent-ok = λ a. parent-kept (T .nodes) ms i ((nodeAt (T .nodes) i) .parent) (λ j e x. still j x) (o .parent-ok a) }
+      old-node i = let o : NodeOk (T .nodes) i (nodeAt (T .nodes) i) = k .safe .nodes i in record {
+        absent-inactive = o .absent-inactive;
+        absent-kept = o .absent-kept;
+        restoring-present = o .restoring-present;
+        restoring-unloading = o .restoring-unloading;
+        parent-ok = λ a. parent-kept (T .nodes) ms i (parentIn (nodeAt (T .nodes) i)) (λ j e x. still j x) (o .parent-ok a);
+      }
 
-      cov : (d : Declaration) → List·Memᴰ d (T .declarations) ⊎ List·Memᴰ d news → d .provides ≡ false → present ms (d .owner) ≡ true → notInactive ms (d .owner) ≡ true → Linked (T .links) (d .owner) (d .port)
-      cov d (inl m) p a b = k .covered d m p (before d m a) (rw (old-at (T .nodes) (newNode par) (d .owner) (k .safe .owners d m), notInactive) at b)
+      cov : (d : Declaration) → OldOrNew d → d .provides ≡ false → present ms (ownerIn d) ≡ true → notInactive ms (ownerIn d) ≡ true → Linked (T .links) (ownerIn d) (declaredPort d)
+      cov d (inl m) p a b = k .covered d m p (before d m a) (rw (old-at (T .nodes) (newNode par) (ownerIn d) (k .safe .owners d m), notInactive) at b)
       cov d (inr m) p a b = let c : notInactive ms id ≡ true = rw ((is-new d m) .0) at b in clash _ c (new-idle par)
 
   pub inserted-sound : (q : Parent) (ds ps : PortList) → Sound S T → Passed (insertTests S T q ds ps) → Sound S (inserted T q ds ps)
-  inserted-sound q ds ps k p = add-node q (listed ds) (listed ps) k (leb-false _ _ (p .1 .0)) (not-f _ (p .1 .1 .0)) (or-f-r (not (distinct (listed ds)) || not (distinct (listed ps))) (any (taken T) (listed ps)) (p .1 .1 .1 .0)) (ltb-false _ _ (p .1 .1 .1 .1 .0))
+  inserted-sound q ds ps k p =
+      let free = or-f-r (not (distinct (listed ds)) || not (distinct (listed ps))) (any (taken T) (listed ps)) (p .1 .1 .1 .0) in
+      add-node q (listed ds) (listed ps) k (leb-false _ _ (p .1 .0)) (not-f _ (p .1 .1 .0)) free (ltb-false _ _ (p .1 .1 .1 .1 .0))

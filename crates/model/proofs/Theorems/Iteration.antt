@@ -1,36 +1,10 @@
 -- The iteration rule, of every list of commands.
-use mathlib.Core.Path.{_∙_, _≡_, ap, refl, sym}
-use mathlib.Core.Bool.{Bool, false, not, true}
-use mathlib.Core.List.{List, List·Memᴰ, List·Memᴰ·head, List·Memᴰ·tail, [], _∷_, cons≢nil, head-eq-of-cons-eq, map, nil≢cons, tail-eq-of-cons-eq}
-use mathlib.Core.Option.{Option, none, some}
-use Prim.Native.Nat.{ℕ}
-use native.Mathlib.Omega.{arith}
+use mathlib.Core.{Bool.Bool, Bool.false, Bool.not, Bool.true, List.List, List.List·Memᴰ, List.List·Memᴰ·head, List.List·Memᴰ·tail, List.[], List._∷_, List.cons≢nil, List.head-eq-of-cons-eq, List.map, List.nil≢cons, List.tail-eq-of-cons-eq, Option.Option, Option.none, Option.some, Path._∙_, Path._≡_, Path.ap, Path.refl, Path.sym}
+use Prim.Native.{Nat.ℕ}
+use native.Mathlib.{Omega.arith}
 use contract.Running.{tables}
-use Rattle.model.specs.declared.Binding.{Binding}
-use Rattle.model.specs.declared.Error.{Error}
-use Rattle.model.specs.declared.Link.{Link}
-use Rattle.model.specs.declared.Phase.{Phase}
-use Rattle.model.proofs.Laws.Booleans.{clash}
-use Rattle.model.proofs.Laws.Committed.{live-link-of}
-use Rattle.model.proofs.Laws.Facts.{LiveOk, Safe, facts}
-use Rattle.model.proofs.Laws.Lists.{in-keep, in-map}
-use Rattle.model.proofs.Laws.Nodes.{at-same, present-lt}
-use Rattle.model.proofs.Laws.Phases.{loading-running, running-installed}
-use Rattle.model.proofs.Laws.Refusals.{skip}
-use Rattle.model.proofs.Laws.Resolution.{Resolved, Targeted, bound-ports, target-resolved, targeted}
-use Rattle.model.proofs.Theorems.Commands.{empty-sound, run-sound}
-use Rattle.model.proofs.Theorems.Kept.{Kept, empty-kept, from-kept}
-use Rattle.model.specs.Commands.{Command, Outcome, run, settle, step}
-use Rattle.model.specs.Iteration.{IterationRule, RuleAt, last, loads, runs}
-use Rattle.model.specs.Lifecycle.{checkIteration, iterationTests, leaveIfChangedTests, left, phaseAt}
-use Rattle.model.specs.Lists.{isNone, keep}
-use Rattle.model.specs.Observers.{phase}
-use Rattle.model.specs.Records.{isLoading, isRunning, portOf, provision, withPhase}
-use Rattle.model.specs.Refusals.{Reply, first, orElse}
-use Rattle.model.specs.Resolution.{committed, dependencyPorts, isLiveLinkOf, target}
-use Rattle.model.specs.Sizes.{Sizes}
-use Rattle.model.specs.Soundness.{sound}
-use Rattle.model.specs.Tables.{Tables, empty, nodeAt, present}
+use Rattle.model.specs.{Commands.Command, Commands.Outcome, Commands.run, Commands.settle, Commands.step, Iteration.IterationRule, Iteration.RuleAt, Iteration.last, Iteration.loads, Iteration.runs, Lifecycle.checkIteration, Lifecycle.iterationTests, Lifecycle.leaveIfChangedTests, Lifecycle.left, Lifecycle.phaseAt, Lists.isNone, Lists.keep, Observers.phase, Records.bindingIn, Records.consumerIn, Records.isLoading, Records.isRunning, Records.portIn, Records.portOf, Records.providerIn, Records.provision, Records.withPhase, Refusals.Reply, Refusals.first, Refusals.orElse, Resolution.committed, Resolution.dependencyPorts, Resolution.isLiveLinkOf, Resolution.target, Sizes.Sizes, Soundness.sound, Tables.Tables, Tables.empty, Tables.nodeAt, Tables.present, declared.Binding.Binding, declared.Error.Error, declared.Phase.Phase, declared.records.Link.Link}
+use Rattle.model.proofs.{Laws.Booleans.clash, Laws.Committed.live-link-of, Laws.Facts.LiveOk, Laws.Facts.Safe, Laws.Facts.facts, Laws.Lists.in-keep, Laws.Lists.in-map, Laws.Nodes.at-same, Laws.Nodes.present-lt, Laws.Phases.loading-running, Laws.Phases.running-installed, Laws.Refusals.skip, Laws.Resolution.Resolved, Laws.Resolution.Targeted, Laws.Resolution.bound-ports, Laws.Resolution.target-resolved, Laws.Resolution.targeted, Theorems.Commands.empty-sound, Theorems.Commands.run-sound, Theorems.Kept.Kept, Theorems.Kept.empty-kept, Theorems.Kept.from-kept}
 
 pub same-bindings : (bs cs : List Binding) → map portOf bs ≡ map portOf cs → ((b c : Binding) → List·Memᴰ b bs → List·Memᴰ c cs → portOf b ≡ portOf c → b .provider ≡ c .provider) → bs ≡ cs
 same-bindings [] [] e f = refl
@@ -43,10 +17,10 @@ same-bindings (b ∷ bs) (c ∷ cs) e f =
     let h : b ≡ c = λ i. record { key = (p i) .key; realm = (p i) .realm; provider = o i } in
     λ i. h i ∷ t i
 
-committed-in : (ls : List Link) (id : ℕ) (b : Binding) → List·Memᴰ b (committed ls id) → (l : Link) × List·Memᴰ l ls × (l .live ≡ true) × (b ≡ l .binding)
+committed-in : (ls : List Link) (id : ℕ) (b : Binding) → List·Memᴰ b (committed ls id) → (l : Link) × List·Memᴰ l ls × (l .live ≡ true) × (b ≡ bindingIn l)
 unfolding committed
 committed-in ls id b m =
-    let (l, n, e) = in-map (λ l. l .binding) (keep (isLiveLinkOf id) ls) m in
+    let (l, n, e) = in-map bindingIn (keep (isLiveLinkOf id) ls) m in
     let (i, h) = in-keep (isLiveLinkOf id) ls n in
     (l, i, (live-link-of id l h) .0, e)
 
@@ -56,8 +30,9 @@ target-committed T id bs k e h =
     same-bindings bs (committed (T .links) id) (bound-ports _ _ bs (t .is-bound) ∙ sym e) (λ b c m n p.
     let r : Resolved (T .nodes) (T .declarations) (portOf b) (b .provider) = target-resolved T id bs t b m in
     let (l, i, v, x) = committed-in (T .links) id c n in
-    let w : LiveOk (T .nodes) (T .declarations) (l .consumer) (l .binding) = k .live l i v in
-    k .unique (provision (b .provider) (portOf b)) (provision (l .binding .provider) (portOf (l .binding))) (r .offered) (w .offered) refl refl (r .there) (w .provider-present) (p ∙ ap portOf x) ∙ sym (ap (λ (z : Binding). z .provider) x))
+    let w : LiveOk (T .nodes) (T .declarations) (consumerIn l) (bindingIn l) = k .live l i v in
+    let same = k .unique (provision (b .provider) (portOf b)) (provision (providerIn l) (portIn l)) (r .offered) (w .offered) refl refl (r .there) (w .provider-present) (p ∙ ap portOf x) in
+    same ∙ sym (ap (λ (z : Binding). z .provider) x))
 
 never : {C : Type 0} {A : Type 0} (a : A) → _≡_ {A = Option A} none (some a) → C
 never a e = let z : _≡_ {A = ℕ} 0 1 = cc in absurd (omega arith)
@@ -100,7 +75,12 @@ module _ (S : Sizes) (T : Tables) (id : ℕ) (t : present (T .nodes) id ≡ true
 -- ---- the rule on sound tables that keep what the history noted
 
 -- a phase as the observer gives it
-observed : (T : Tables) (id : ℕ) (f : Phase → Bool) (g : Option Phase → Bool) → g none ≡ false → ((x : Phase) → g (some x) ≡ f x) → g (phase T id) ≡ true → (present (T .nodes) id ≡ true) × (f (phaseAt T id) ≡ true)
+observed :
+    (T : Tables) (id : ℕ) (f : Phase → Bool) (g : Option Phase → Bool)
+    → g none ≡ false
+    → ((x : Phase) → g (some x) ≡ f x)
+    → g (phase T id) ≡ true
+    → (present (T .nodes) id ≡ true) × (f (phaseAt T id) ≡ true)
 observed T id f g n s h = go (present (T .nodes) id) refl
   where
     go : (b : Bool) → present (T .nodes) id ≡ b → (present (T .nodes) id ≡ true) × (f (phaseAt T id) ≡ true)
@@ -135,7 +115,9 @@ module _ (S : Sizes) (T : Tables) (h : sound S T ≡ true) (id : ℕ) (a : Optio
         committed-is = λ r. q .as-begun ((running r) .1);
         check-accepts = λ m. let (t, l) = isloading m in (λ x. same bs e (loaded l), λ x. check-done S T id t bs e l);
         check-refuses = λ m x. absurd (x (same bs e (loaded ((isloading m) .1))));
-        leave-accepts = λ m. let (t, r) = running m in (λ x y. refusal-not-done {C = ⊥} Error.Changed (sym (ap (λ (z : Outcome). z .reply) (leave-unchanged S T id t bs e r)) ∙ x .0), λ x. absurd (x (same bs e r)));
+        leave-accepts = λ m.
+            let (t, r) = running m in
+            (λ x y. refusal-not-done {C = ⊥} Error.Changed (sym (ap (λ (z : Outcome). z .reply) (leave-unchanged S T id t bs e r)) ∙ x .0), λ x. absurd (x (same bs e r)));
         leave-refuses = λ m x. let (t, r) = running m in ap (λ (z : Outcome). z .reply) (leave-unchanged S T id t bs e r);
       }
 

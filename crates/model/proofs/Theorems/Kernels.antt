@@ -1,29 +1,9 @@
 -- Reached kernels are sound, so that no command on one answers 10, and the iteration rule holds of them.
-use mathlib.Core.Path.{_∙_, _≡_, ap, refl}
-use mathlib.Core.Bool.{Bool, _&&_, cond, false, not, true}
-use mathlib.Core.List.{List, [], _∷_}
-use mathlib.Core.Option.{Option, none, some}
-use Prim.Native.Nat.{ℕ}
-use lib.Dec.{eqb}
-use Rattle.model.specs.declared.Binding.{Binding}
-use Rattle.model.specs.declared.Error.{Error}
-use Rattle.model.proofs.Laws.Booleans.{clash}
-use Rattle.model.proofs.Laws.Refusals.{Passed, first-among, of-passed, report-accepts, step-cases}
-use Rattle.model.proofs.Theorems.Commands.{empty-sound, run-sound, step-sound}
-use Rattle.model.proofs.Theorems.Iteration.{iteration-rule}
-use Rattle.model.proofs.Theorems.Layouts.{laid-out, layout-sound, read-back}
-use Rattle.model.specs.Commands.{Command, report, result, run, runFrom, settle, step, tests}
-use Rattle.model.specs.Iteration.{RuleAt, begins, last, lastFrom, noted}
-use Rattle.model.specs.Kernels.{Commanded, KernelIterationRule, KernelRuleAt, asked, commanded, kernelFrom, kernelLastFrom, reached, targetOf}
-use Rattle.model.specs.Layouts.{Layout, Sized, layOut, soundKernel, tablesOf}
-use Rattle.model.specs.Lifecycle.{checkIteration}
-use Rattle.model.specs.Lists.{all}
-use Rattle.model.specs.Observers.{phase}
-use Rattle.model.specs.Refusals.{Reply, accepted, first, number}
-use Rattle.model.specs.Resolution.{committed, target}
-use Rattle.model.specs.Sizes.{Sizes}
-use Rattle.model.specs.Soundness.{sound}
-use Rattle.model.specs.Tables.{Tables, empty}
+use mathlib.Core.{Bool.Bool, Bool._&&_, Bool.cond, Bool.false, Bool.not, Bool.true, List.List, List.[], List._∷_, Option.Option, Option.none, Option.some, Path._∙_, Path._≡_, Path.ap, Path.refl}
+use Prim.Native.{Nat.ℕ}
+use lib.{Dec.eqb}
+use Rattle.model.specs.{Commands.Command, Commands.report, Commands.result, Commands.run, Commands.runFrom, Commands.settle, Commands.step, Commands.tests, Iteration.RuleAt, Iteration.begins, Iteration.last, Iteration.lastFrom, Iteration.noted, Kernels.Commanded, Kernels.KernelIterationRule, Kernels.KernelRuleAt, Kernels.asked, Kernels.commanded, Kernels.committedOf, Kernels.iterationOf, Kernels.kernelFrom, Kernels.kernelLastFrom, Kernels.phaseOf, Kernels.reached, Kernels.targetOf, Layouts.Layout, Layouts.Sized, Layouts.layOut, Layouts.soundKernel, Layouts.tablesOf, Lifecycle.checkIteration, Lists.all, Observers.phase, Refusals.Reply, Refusals.accepted, Refusals.first, Refusals.number, Resolution.committed, Resolution.target, Sizes.Sizes, Soundness.sound, Tables.Tables, Tables.empty, declared.Binding.Binding, declared.Error.Error}
+use Rattle.model.proofs.{Laws.Booleans.clash, Laws.Refusals.Passed, Laws.Refusals.first-among, Laws.Refusals.of-passed, Laws.Refusals.report-accepts, Laws.Refusals.step-cases, Theorems.Commands.empty-sound, Theorems.Commands.run-sound, Theorems.Commands.step-sound, Theorems.Iteration.iteration-rule, Theorems.Layouts.laid-out, Theorems.Layouts.layout-sound, Theorems.Layouts.read-back}
 
 -- what a sound kernel answers, and an unsound one
 pub asked-sound : {A : Type 0} (S : Sizes) (k : Layout) (u : A) (f : Tables → A) → soundKernel S k ≡ true → asked S k u f ≡ f (tablesOf k)
@@ -39,11 +19,20 @@ unfolding commanded
 commanded-unsound S k c h = rw h
 
 -- a refusal hands the kernel back unchanged
-pub commanded-refused : (S : Sizes) (k : Layout) (c : Command) (e : Error) → Sized S k → soundKernel S k ≡ true → first (tests S (tablesOf k) c) ≡ some e → commanded S k c ≡ record { kernel = k; reply = Reply.refused e }
+pub commanded-refused :
+    (S : Sizes) (k : Layout) (c : Command) (e : Error)
+    → Sized S k
+    → soundKernel S k ≡ true
+    → first (tests S (tablesOf k) c) ≡ some e
+    → commanded S k c ≡ record { kernel = k; reply = Reply.refused e }
 unfolding commanded step settle
 commanded-refused S k c e a h f = rw (h, f, laid-out S k a h)
 
-pub commanded-accepted : (S : Sizes) (k : Layout) (c : Command) → soundKernel S k ≡ true → Passed (tests S (tablesOf k) c) → commanded S k c ≡ record { kernel = layOut S (result (tablesOf k) c); reply = report (tablesOf k) c }
+pub commanded-accepted :
+    (S : Sizes) (k : Layout) (c : Command)
+    → soundKernel S k ≡ true
+    → Passed (tests S (tablesOf k) c)
+    → commanded S k c ≡ record { kernel = layOut S (result (tablesOf k) c); reply = report (tablesOf k) c }
 unfolding commanded step settle
 commanded-accepted S k c h p = rw (h, of-passed (tests S (tablesOf k) c) p)
 
@@ -90,7 +79,11 @@ report-accepted : (T : Tables) (c : Command) (e : Error) → report T c ≡ Repl
 report-accepted T c e h = clash {A = ⊥} (accepted (report T c)) (report-accepts T c) (rw h)
 
 step-undamaged : (S : Sizes) (T : Tables) (c : Command) → (step S T c) .reply ≡ Reply.refused Error.Damaged → ⊥
-step-undamaged S T c = step-cases (λ o. o .reply ≡ Reply.refused Error.Damaged → ⊥) S T c (λ e h q. let d : e ≡ Error.Damaged = cc in clash {A = ⊥} false (first-among (tests S T c) Error.Damaged (λ x. not (eqb (number x) (number Error.Damaged))) (undamaged S T c) (rw d at h)) refl) (λ p q. report-accepted T c Error.Damaged q)
+step-undamaged S T c = step-cases (λ o. o .reply ≡ Reply.refused Error.Damaged → ⊥) S T c
+    (λ e h q.
+    let d : e ≡ Error.Damaged = cc in
+    clash {A = ⊥} false (first-among (tests S T c) Error.Damaged (λ x. not (eqb (number x) (number Error.Damaged))) (undamaged S T c) (rw d at h)) refl)
+    (λ p q. report-accepted T c Error.Damaged q)
 
 -- no command on a reached kernel answers 10
 pub reached-undamaged : (S : Sizes) (cs : List Command) (c : Command) → (commanded S (reached S cs) c) .reply ≡ Reply.refused Error.Damaged → ⊥
@@ -108,7 +101,12 @@ kernel-last S T id (c ∷ cs) a h =
 kernel-rule : (S : Sizes) (T : Tables) (id : ℕ) (a : Option (List Binding)) → sound S T ≡ true → RuleAt S T id a → KernelRuleAt S (layOut S T) id a
 kernel-rule S T id a h r =
     let U : Tables = (step S T (Command.leaveIfChanged id)) .tables in
-    rw (asked-of S T h none (λ T. phase T id), asked-of S T h [] (λ T. committed (T .links) id), asked-of S T h none (λ T. target T id), asked-of S T h (Reply.refused Error.Damaged) (λ T. checkIteration T id), commanded-of S T h (Command.leaveIfChanged id), asked-of S U (step-sound S T (Command.leaveIfChanged id) h) none (λ T. phase T id)) r
+    let now : phaseOf S (layOut S T) id ≡ phase T id = asked-of S T h none (λ T. phase T id) in
+    let held : committedOf S (layOut S T) id ≡ committed (T .links) id = asked-of S T h [] (λ T. committed (T .links) id) in
+    let wanted : targetOf S (layOut S T) id ≡ target T id = asked-of S T h none (λ T. target T id) in
+    let check : iterationOf S (layOut S T) id ≡ checkIteration T id = asked-of S T h (Reply.refused Error.Damaged) (λ T. checkIteration T id) in
+    let after : phaseOf S (layOut S U) id ≡ phase U id = asked-of S U (step-sound S T (Command.leaveIfChanged id) h) none (λ T. phase T id) in
+    rw (now, held, wanted, check, commanded-of S T h (Command.leaveIfChanged id), after) r
 
 pub kernel-iteration-rule : KernelIterationRule
 kernel-iteration-rule S cs id = rw (reached-is S cs, kernel-last S empty id cs none (empty-sound S)) (kernel-rule S (run S cs) id (last S cs id) (run-sound S cs) (iteration-rule S cs id))

@@ -1,25 +1,13 @@
 -- A sound kernel is its tables laid out, and tables come back from their layout.
--- what the tests of a layout say
-use mathlib.Core.Path.{_∙_, _≡_, ap, refl, sym}
-use mathlib.Core.Bool.{true}
-use mathlib.Core.List.{List}
-use Prim.Native.Nat.{_≤_, ℕ}
-use native.Mathlib.Omega.{arith}
-use lib.ListN.{drop, getD, length, take}
-use lib.Seq.{length-take-le}
-use borrow.Author.Tests.{le-leb, leb-true}
-use Rattle.model.specs.declared.Node.{Node}
-use Rattle.model.proofs.Laws.Arrays.{getD-padded, length-padded, rest-blank, take-padded, whole-array}
-use Rattle.model.proofs.Laws.Blanks.{blank-declaration, blank-link, blank-node}
-use Rattle.model.proofs.Laws.Booleans.{Each, and-i, and-l, and-r, each, of-each}
-use Rattle.model.proofs.Laws.Facts.{Fits, fits-of, of-fits}
-use Rattle.model.specs.Layouts.{Layout, Sized, layOut, layoutTests, soundKernel, tablesOf}
-use Rattle.model.specs.Lists.{all, conj, padded}
-use Rattle.model.specs.Records.{blankDeclaration, blankLink, blankNode, isBlankDeclaration, isBlankLink, isBlankNode}
-use Rattle.model.specs.Sizes.{Sizes}
-use Rattle.model.specs.Soundness.{fits, sound, wf}
-use Rattle.model.specs.Tables.{Tables, nodeAt}
+use mathlib.Core.{Bool.true, List.List, Path._∙_, Path._≡_, Path.ap, Path.refl, Path.sym}
+use Prim.Native.{Nat._≤_, Nat.ℕ}
+use native.Mathlib.{Omega.arith}
+use lib.{ListN.drop, ListN.getD, ListN.length, ListN.take, Seq.length-take-le}
+use borrow.{Author.Tests.le-leb, Author.Tests.leb-true}
+use Rattle.model.specs.{Layouts.Layout, Layouts.Sized, Layouts.layOut, Layouts.layoutTests, Layouts.soundKernel, Layouts.tablesOf, Lists.all, Lists.conj, Lists.padded, Records.blankDeclaration, Records.blankLink, Records.blankNode, Records.isBlankDeclaration, Records.isBlankLink, Records.isBlankNode, Sizes.Sizes, Soundness.fits, Soundness.sound, Soundness.wf, Tables.Tables, Tables.nodeAt, declared.records.Node.Node}
+use Rattle.model.proofs.{Laws.Arrays.getD-padded, Laws.Arrays.length-padded, Laws.Arrays.rest-blank, Laws.Arrays.take-padded, Laws.Arrays.whole-array, Laws.Blanks.blank-declaration, Laws.Blanks.blank-link, Laws.Blanks.blank-node, Laws.Booleans.Each, Laws.Booleans.and-i, Laws.Booleans.and-l, Laws.Booleans.and-r, Laws.Booleans.each, Laws.Booleans.of-each, Laws.Facts.Fits, Laws.Facts.fits-of, Laws.Facts.of-fits}
 
+-- what the tests of a layout say
 pub record Laid (S : Sizes) (k : Layout) : Type 0 where
   pub nodes : k .nodeCount ≤ S .identities
   pub declarations : k .declarationCount ≤ S .declarations
@@ -31,11 +19,23 @@ pub record Laid (S : Sizes) (k : Layout) : Type 0 where
 
 pub laid-of : (S : Sizes) (k : Layout) → soundKernel S k ≡ true → Laid S k
 unfolding soundKernel
-laid-of S k h = let e : Each (layoutTests S k) = each (layoutTests S k) (and-l (conj (layoutTests S k)) _ h) in record { nodes = leb-true _ _ (e .0); declarations = leb-true _ _ (e .1 .0); links = leb-true _ _ (e .1 .1 .0); blank-nodes = e .1 .1 .1 .0; blank-declarations = e .1 .1 .1 .1 .0; blank-links = e .1 .1 .1 .1 .1 .0; points = and-r (conj (layoutTests S k)) _ h }
+laid-of S k h =
+    let e : Each (layoutTests S k) = each (layoutTests S k) (and-l (conj (layoutTests S k)) _ h) in
+    record {
+      nodes = leb-true _ _ (e .0);
+      declarations = leb-true _ _ (e .1 .0);
+      links = leb-true _ _ (e .1 .1 .0);
+      blank-nodes = e .1 .1 .1 .0;
+      blank-declarations = e .1 .1 .1 .1 .0;
+      blank-links = e .1 .1 .1 .1 .1 .0;
+      points = and-r (conj (layoutTests S k)) _ h;
+    }
 
 pub of-laid : (S : Sizes) (k : Layout) → Laid S k → soundKernel S k ≡ true
 unfolding soundKernel
-of-laid S k l = and-i (conj (layoutTests S k)) _ (of-each (layoutTests S k) (le-leb _ _ (l .nodes), (le-leb _ _ (l .declarations), (le-leb _ _ (l .links), (l .blank-nodes, (l .blank-declarations, (l .blank-links, tt))))))) (l .points)
+of-laid S k l =
+    let e : Each (layoutTests S k) = (le-leb _ _ (l .nodes), (le-leb _ _ (l .declarations), (le-leb _ _ (l .links), (l .blank-nodes, (l .blank-declarations, (l .blank-links, tt)))))) in
+    and-i (conj (layoutTests S k)) _ (of-each (layoutTests S k) e) (l .points)
 
 module _ (S : Sizes) (k : Layout) (a : Sized S k) (h : soundKernel S k ≡ true) where
   laid : Laid S k
@@ -60,35 +60,55 @@ module _ (S : Sizes) (k : Layout) (a : Sized S k) (h : soundKernel S k ≡ true)
   -- a sound kernel's tables are sound
   pub tables-sound : sound S (tablesOf k) ≡ true
   unfolding sound
-  tables-sound = and-i (fits S (tablesOf k)) _ (of-fits S (tablesOf k) (record { nodes = rw node-count (laid .nodes); declarations = rw declaration-count (laid .declarations); links = rw link-count (laid .links) })) (laid .points)
+  tables-sound =
+      let within : Fits S (tablesOf k) = record { nodes = rw node-count (laid .nodes); declarations = rw declaration-count (laid .declarations); links = rw link-count (laid .links) } in
+      and-i (fits S (tablesOf k)) _ (of-fits S (tablesOf k) within) (laid .points)
+
+  whole-nodes : padded (S .identities) blankNode (take (k .nodeCount) (k .nodes)) ≡ k .nodes
+  whole-nodes = whole-array isBlankNode blankNode blank-node _ _ (k .nodes) (a .nodes) (laid .nodes) (laid .blank-nodes)
 
   -- a sound kernel is its tables laid out
   pub laid-out : layOut S (tablesOf k) ≡ k
   unfolding layOut tablesOf
   laid-out =
-      let p : padded (S .identities) blankNode (take (k .nodeCount) (k .nodes)) ≡ k .nodes = whole-array isBlankNode blankNode blank-node _ _ (k .nodes) (a .nodes) (laid .nodes) (laid .blank-nodes) in
-      let q : padded (S .declarations) blankDeclaration (take (k .declarationCount) (k .declarations)) ≡ k .declarations = whole-array isBlankDeclaration blankDeclaration blank-declaration _ _ (k .declarations) (a .declarations) (laid .declarations) (laid .blank-declarations) in
-      let r : padded (S .links) blankLink (take (k .linkCount) (k .links)) ≡ k .links = whole-array isBlankLink blankLink blank-link _ _ (k .links) (a .links) (laid .links) (laid .blank-links) in
-      λ i. record { nodes = p i; nodeCount = node-count i; declarations = q i; declarationCount = declaration-count i; links = r i; linkCount = link-count i }
+      let q = whole-array isBlankDeclaration blankDeclaration blank-declaration _ _ (k .declarations) (a .declarations) (laid .declarations) (laid .blank-declarations) in
+      let r = whole-array isBlankLink blankLink blank-link _ _ (k .links) (a .links) (laid .links) (laid .blank-links) in
+      λ i. record { nodes = whole-nodes i; nodeCount = node-count i; declarations = q i; declarationCount = declaration-count i; links = r i; linkCount = link-count i }
 
   -- an identity's node is what the array holds, and blank past it
   pub node-in-array : (id : ℕ) → nodeAt ((tablesOf k) .nodes) id ≡ getD (k .nodes) id blankNode
   unfolding nodeAt tablesOf
-  node-in-array id = sym (getD-padded (S .identities) blankNode (take (k .nodeCount) (k .nodes)) id) ∙ ap (λ (ns : List Node). getD ns id blankNode) (whole-array isBlankNode blankNode blank-node _ _ (k .nodes) (a .nodes) (laid .nodes) (laid .blank-nodes))
+  node-in-array id = sym (getD-padded (S .identities) blankNode (take (k .nodeCount) (k .nodes)) id) ∙ ap (λ (ns : List Node). getD ns id blankNode) whole-nodes
 
 -- tables come back from their layout
 pub read-back : (S : Sizes) (T : Tables) → tablesOf (layOut S T) ≡ T
 unfolding tablesOf layOut
-read-back S T = λ i. record { nodes = take-padded (S .identities) blankNode (T .nodes) i; declarations = take-padded (S .declarations) blankDeclaration (T .declarations) i; links = take-padded (S .links) blankLink (T .links) i }
+read-back S T = λ i. record {
+  nodes = take-padded (S .identities) blankNode (T .nodes) i;
+  declarations = take-padded (S .declarations) blankDeclaration (T .declarations) i;
+  links = take-padded (S .links) blankLink (T .links) i;
+}
 
 -- the layout of tables within the sizes fills its arrays
 pub layout-sized : (S : Sizes) (T : Tables) → Fits S T → Sized S (layOut S T)
 unfolding layOut
-layout-sized S T f = record { nodes = length-padded _ blankNode (T .nodes) (f .nodes); declarations = length-padded _ blankDeclaration (T .declarations) (f .declarations); links = length-padded _ blankLink (T .links) (f .links) }
+layout-sized S T f = record {
+  nodes = length-padded _ blankNode (T .nodes) (f .nodes);
+  declarations = length-padded _ blankDeclaration (T .declarations) (f .declarations);
+  links = length-padded _ blankLink (T .links) (f .links);
+}
 
 -- and is sound as they are
 pub layout-sound : (S : Sizes) (T : Tables) → sound S T ≡ true → soundKernel S (layOut S T) ≡ true
 unfolding layOut sound
 layout-sound S T h =
     let f : Fits S T = fits-of S T (and-l (fits S T) _ h) in
-    of-laid S (layOut S T) (record { nodes = f .nodes; declarations = f .declarations; links = f .links; blank-nodes = rest-blank isBlankNode blankNode refl (S .identities) (T .nodes); blank-declarations = rest-blank isBlankDeclaration blankDeclaration refl (S .declarations) (T .declarations); blank-links = rest-blank isBlankLink blankLink refl (S .links) (T .links); points = rw (read-back S T) (and-r (fits S T) _ h) })
+    of-laid S (layOut S T) (record {
+      nodes = f .nodes;
+      declarations = f .declarations;
+      links = f .links;
+      blank-nodes = rest-blank isBlankNode blankNode refl (S .identities) (T .nodes);
+      blank-declarations = rest-blank isBlankDeclaration blankDeclaration refl (S .declarations) (T .declarations);
+      blank-links = rest-blank isBlankLink blankLink refl (S .links) (T .links);
+      points = rw (read-back S T) (and-r (fits S T) _ h);
+    })

@@ -1,22 +1,10 @@
 -- finish, leave, retire, begin_cleanup and remove keep soundness: one node is written anew.
-use mathlib.Core.Path.{_≡_, refl}
-use mathlib.Core.Bool.{false, not, true}
-use Prim.Native.Nat.{ℕ}
-use lib.Dec.{eqb}
-use borrow.Author.Tests.{eq-eqb}
-use Rattle.model.specs.declared.Node.{Node}
-use Rattle.model.proofs.Laws.Booleans.{and-i, and-l, and-r, clash, not-f}
-use Rattle.model.proofs.Laws.Facts.{Sound}
-use Rattle.model.proofs.Laws.Lists.{none-in}
-use Rattle.model.proofs.Laws.Phases.{inactive-stays, loading-running, running-installed, running-stays, unloading-installed}
-use Rattle.model.proofs.Laws.Refusals.{Passed}
-use Rattle.model.proofs.Laws.Update.{calm, sound-update}
-use Rattle.model.proofs.Theorems.UpdateNode.{no-child}
-use Rattle.model.specs.Lifecycle.{beginCleanupTests, cleanupBegun, finished, iterationTests, leaveTests, left, relies, removeTests, removedFrom, retireTests, retiredFrom}
-use Rattle.model.specs.Observers.{children}
-use Rattle.model.specs.Records.{isInactive, isRunning, isUnloading}
-use Rattle.model.specs.Sizes.{Sizes}
-use Rattle.model.specs.Tables.{Tables, nodeAt, present}
+use mathlib.Core.{Bool.false, Bool.not, Bool.true, Path._≡_, Path.refl}
+use Prim.Native.{Nat.ℕ}
+use lib.{Dec.eqb}
+use borrow.{Author.Tests.eq-eqb}
+use Rattle.model.specs.{Lifecycle.beginCleanupTests, Lifecycle.cleanupBegun, Lifecycle.finished, Lifecycle.iterationTests, Lifecycle.leaveTests, Lifecycle.left, Lifecycle.relies, Lifecycle.removeTests, Lifecycle.removedFrom, Lifecycle.retireTests, Lifecycle.retiredFrom, Observers.children, Records.isInactive, Records.isRunning, Records.isUnloading, Records.providerIn, Sizes.Sizes, Tables.Tables, Tables.nodeAt, Tables.present, declared.records.Node.Node}
+use Rattle.model.proofs.{Laws.Booleans.and-i, Laws.Booleans.and-l, Laws.Booleans.and-r, Laws.Booleans.clash, Laws.Booleans.not-f, Laws.Facts.Sound, Laws.Lists.none-in, Laws.Phases.inactive-stays, Laws.Phases.loading-running, Laws.Phases.running-installed, Laws.Phases.running-stays, Laws.Phases.unloading-installed, Laws.Refusals.Passed, Laws.Update.calm, Laws.Update.sound-update, Theorems.UpdateNode.no-child}
 
 module _ (S : Sizes) (T : Tables) (id : ℕ) (k : Sound S T) where
   abbrev node : Node
@@ -50,7 +38,7 @@ module _ (S : Sizes) (T : Tables) (id : ℕ) (k : Sound S T) where
         restoring-unloading = λ r. q;
         children = λ j a e. t;
         consumes = λ l m v e. (t, i);
-        provides = λ l m v e. clash _ (and-i (l .live) (eqb (l .binding .provider) id) v (eq-eqb _ _ e)) (none-in (relies id) m (p .1 .1 .0));
+        provides = λ l m v e. clash _ (and-i (l .live) (eqb (providerIn l) id) v (eq-eqb _ _ e)) (none-in (relies id) m (p .1 .1 .0));
       }) (λ j. i)
 
   pub removedFrom-sound : Passed (removeTests T id) → Sound S (removedFrom T id)

@@ -1,30 +1,11 @@
 -- The test of soundness is document 01's six points, both ways.
-use mathlib.Core.Path.{_∙_, _≡_, refl}
-use mathlib.Core.Bool.{Bool, _&&_, false, not, true}
-use mathlib.Core.List.{List, List·Memᴰ}
-use mathlib.Core.Logic.{_↔_}
-use Prim.Native.Nat.{_<_, ℕ}
-use native.Mathlib.Omega.{arith}
-use native.Mathlib.Decide.{decLt}
-use lib.Dec.{ltb}
-use lib.ListN.{getD, length}
-use borrow.Author.Tests.{lt-ltb, ltb-true}
-use Rattle.model.specs.declared.Link.{Link}
-use Rattle.model.specs.declared.Node.{Node}
-use Rattle.model.specs.declared.Parent.{Parent}
-use Rattle.model.specs.declared.Phase.{Phase}
-use Rattle.model.proofs.Laws.Booleans.{and-i, and-l, and-r, clash, not-t}
-use Rattle.model.proofs.Laws.Facts.{Covered, Fits, Linked, LiveOk, NodeOk, Safe, blank-ok, covered-of, fits-of, of-covered, of-fits, of-safe, safe-of}
-use Rattle.model.proofs.Laws.Lists.{at-in, at-onward, getD-any, in-at, onward-at}
-use Rattle.model.proofs.Laws.Nodes.{past-blank, present-lt}
-use Rattle.model.proofs.Laws.Order.{apart-of, of-apart}
-use Rattle.model.proofs.Laws.Phases.{inactive-is, unloading-is}
-use Rattle.model.specs.Lifecycle.{phaseAt}
-use Rattle.model.specs.Points.{At, Installed, Points, Present, Restoring, Within}
-use Rattle.model.specs.Records.{blankNode, isInactive}
-use Rattle.model.specs.Sizes.{Sizes}
-use Rattle.model.specs.Soundness.{apart, fits, parentOk, safetyWf, sound, wf}
-use Rattle.model.specs.Tables.{Tables, nodeAt, notInactive, present}
+use mathlib.Core.{Bool.Bool, Bool._&&_, Bool.false, Bool.not, Bool.true, List.List, List.List·Memᴰ, Logic._↔_, Path._∙_, Path._≡_, Path.refl}
+use Prim.Native.{Nat._<_, Nat.ℕ}
+use native.Mathlib.{Decide.decLt, Omega.arith}
+use lib.{Dec.ltb, ListN.getD, ListN.length}
+use borrow.{Author.Tests.lt-ltb, Author.Tests.ltb-true}
+use Rattle.model.specs.{Lifecycle.phaseAt, Points.At, Points.Installed, Points.Points, Points.Present, Points.Restoring, Points.Within, Records.bindingIn, Records.blankNode, Records.consumerIn, Records.isInactive, Records.parentIn, Records.providerIn, Sizes.Sizes, Soundness.apart, Soundness.fits, Soundness.parentOk, Soundness.safetyWf, Soundness.sound, Soundness.wf, Tables.Tables, Tables.nodeAt, Tables.notInactive, Tables.present, declared.Parent.Parent, declared.Phase.Phase, declared.records.Link.Link, declared.records.Node.Node}
+use Rattle.model.proofs.{Laws.Booleans.and-i, Laws.Booleans.and-l, Laws.Booleans.and-r, Laws.Booleans.clash, Laws.Booleans.not-t, Laws.Facts.Covered, Laws.Facts.Fits, Laws.Facts.LiveOk, Laws.Facts.NodeOk, Laws.Facts.Safe, Laws.Facts.blank-ok, Laws.Facts.covered-of, Laws.Facts.fits-of, Laws.Facts.of-covered, Laws.Facts.of-fits, Laws.Facts.of-safe, Laws.Facts.safe-of, Laws.Lists.at-in, Laws.Lists.at-onward, Laws.Lists.getD-any, Laws.Lists.in-at, Laws.Lists.onward-at, Laws.Nodes.past-blank, Laws.Nodes.present-lt, Laws.Order.apart-of, Laws.Order.of-apart, Laws.Phases.inactive-is, Laws.Phases.unloading-is}
 
 -- ---- nodes by place and by identity
 
@@ -64,7 +45,7 @@ module _ (T : Tables) (k : Safe T) (c : Covered T) where
   node-ok : (i : ℕ) (n : Node) → At (T .nodes) i n → NodeOk (T .nodes) i n
   node-ok i n a = rw (at-node (T .nodes) i n a) at (k .nodes i)
 
-  live-at : (i : ℕ) (l : Link) → At (T .links) i l → l .live ≡ true → LiveOk (T .nodes) (T .declarations) (l .consumer) (l .binding)
+  live-at : (i : ℕ) (l : Link) → At (T .links) i l → l .live ≡ true → LiveOk (T .nodes) (T .declarations) (consumerIn l) (bindingIn l)
   live-at i l a v = k .live l (at-in (T .links) i l a) v
 
   parent-points : (i p : ℕ) (o : Parent) → parentOk (T .nodes) i o ≡ true → o ≡ Parent.Of p → Present T p × (p < i)
@@ -73,22 +54,22 @@ module _ (T : Tables) (k : Safe T) (c : Covered T) where
       let g : ltb p i && present (T .nodes) p ≡ true = rw e at h in
       (of-present T p (and-r (ltb p i) _ g), ltb-true _ _ (and-l (ltb p i) _ g))
 
-  earlier : (i j : ℕ) (l m : Link) → At (T .links) i l → At (T .links) j m → l .live ≡ true → m .live ≡ true → l .binding .provider ≡ m .consumer → Dec (j < i) → j < i
+  earlier : (i j : ℕ) (l m : Link) → At (T .links) i l → At (T .links) j m → l .live ≡ true → m .live ≡ true → providerIn l ≡ consumerIn m → Dec (j < i) → j < i
   earlier i j l m a b v w e (yes x) = x
   earlier i j l m a b v w e (no x) = absurd (of-apart l m (rw (a .1, b .1) at (onward-at apart (T .links) (k .order) i j l m (omega arith) (b .0))) v w e)
 
   points : Points T
   points = record {
     owners = λ i d a. k .owners d (at-in _ i d a);
-    provisions = λ i j d e a b p q x y r. k .unique d e (at-in _ i d a) (at-in _ j e b) p q (to-present T _ x) (to-present T _ y) r;
+    provisions = λ i j d e (a, p, x) (b, q, y) r. k .unique d e (at-in _ i d a) (at-in _ j e b) p q (to-present T _ x) (to-present T _ y) r;
     absent = λ i n a h. (inactive-is (n .phase) (node-ok i n a .absent-inactive h), node-ok i n a .absent-kept h);
     restoring = λ i n a h. (node-ok i n a .restoring-present h, unloading-is (n .phase) (node-ok i n a .restoring-unloading h));
-    parents = λ i p n a h e. parent-points i p (n .parent) (node-ok i n a .parent-ok h) e;
-    ends = λ i l a v. let o : LiveOk (T .nodes) (T .declarations) (l .consumer) (l .binding) = live-at i l a v in (of-installed T _ (o .consumer-present) (o .consumer-installed), of-installed T _ (o .provider-present) (o .provider-installed));
+    parents = λ i p n a h e. parent-points i p (parentIn n) (node-ok i n a .parent-ok h) e;
+    ends = λ i l a v. let o = live-at i l a v in (of-installed T _ (o .consumer-present) (o .consumer-installed), of-installed T _ (o .provider-present) (o .provider-installed));
     providers = λ i l a v r. clash {A = ⊥} _ (rw (at-node (T .nodes) _ (r .0) (r .1)) (r .2)) (live-at i l a v .provider-kept);
     declared = λ i l a v. (in-at (live-at i l a v .needed), in-at (live-at i l a v .offered));
     order = λ i j l m a b v w e. earlier i j l m a b v w e (decLt j i);
-    covered = λ i d a p x. let o : Linked (T .links) (d .owner) (d .port) = c d (at-in _ i d a) p (to-present T _ (x .0, x .1, x .2)) (to-installed T _ x) in (o .link, in-at (o .among), o .is-live, o .of-consumer, o .of-port);
+    covered = λ i d a p x. let o = c d (at-in _ i d a) p (to-present T _ (x .0, x .1, x .2)) (to-installed T _ x) in (o .link, in-at (o .among), o .is-live, o .of-consumer, o .of-port);
   }
 
 -- ---- to the test
@@ -108,7 +89,7 @@ module _ (T : Tables) (k : Points T) where
         absent-kept = λ h. (k .absent i _ a h) .1;
         restoring-present = λ h. (k .restoring i _ a h) .0;
         restoring-unloading = λ h. rw ((k .restoring i _ a h) .1);
-        parent-ok = λ h. parent-ok i (n .parent) (λ p e. k .parents i p _ a h e);
+        parent-ok = λ h. parent-ok i (parentIn n) (λ p e. k .parents i p _ a h e);
       }
   node i (no l) = rw (past-blank (T .nodes) i (omega arith)) (blank-ok (T .nodes) i)
 
@@ -116,18 +97,26 @@ module _ (T : Tables) (k : Points T) where
   not-restoring-at id h g true e = absurd (g (nodeAt (T .nodes) id, node-at (T .nodes) id (present-lt _ _ h), e))
   not-restoring-at id h g false e = refl
 
-  live-facts : (l : Link) → List·Memᴰ l (T .links) → l .live ≡ true → LiveOk (T .nodes) (T .declarations) (l .consumer) (l .binding)
+  live-facts : (l : Link) → List·Memᴰ l (T .links) → l .live ≡ true → LiveOk (T .nodes) (T .declarations) (consumerIn l) (bindingIn l)
   live-facts l m v =
       let (i, a) = in-at m in
       let (x, y) = k .ends i l a v in
       let (d, e) = k .declared i l a v in
-      let z : present (T .nodes) (l .binding .provider) ≡ true = to-present T _ (y .0, y .1, y .2) in
-      record { consumer-present = to-present T _ (x .0, x .1, x .2); consumer-installed = to-installed T _ x; provider-present = z; provider-installed = to-installed T _ y; provider-kept = not-restoring-at _ z (k .providers i l a v) _ refl; needed = at-in _ (d .0) _ (d .1); offered = at-in _ (e .0) _ (e .1) }
+      let z : present (T .nodes) (providerIn l) ≡ true = to-present T _ (y .0, y .1, y .2) in
+      record {
+        consumer-present = to-present T _ (x .0, x .1, x .2);
+        consumer-installed = to-installed T _ x;
+        provider-present = z;
+        provider-installed = to-installed T _ y;
+        provider-kept = not-restoring-at _ z (k .providers i l a v) _ refl;
+        needed = at-in _ (d .0) _ (d .1);
+        offered = at-in _ (e .0) _ (e .1);
+      }
 
   safe : Safe T
   safe = record {
     owners = λ d m. let (i, a) = in-at m in k .owners i d a;
-    unique = λ d e m n p q x y r. let (i, a) = in-at m in let (j, b) = in-at n in k .provisions i j d e a b p q (of-present T _ x) (of-present T _ y) r;
+    unique = λ d e m n p q x y r. let (i, a) = in-at m in let (j, b) = in-at n in k .provisions i j d e (a, p, of-present T _ x) (b, q, of-present T _ y) r;
     nodes = λ i. node i (decLt i (length (T .nodes)));
     live = live-facts;
     order = at-onward apart (T .links) (λ i j l m a b p. apart-of l m (λ v w e. omega (arith, k .order i j l m a b v w e)));
@@ -144,4 +133,10 @@ wf-points T = (λ h. points T (safe-of T (and-l (safetyWf T) _ h)) (covered-of T
 
 pub sound-points : (S : Sizes) (T : Tables) → (sound S T ≡ true) ↔ (Within S T × Points T)
 unfolding sound
-sound-points S T = (λ h. let f : Fits S T = fits-of S T (and-l (fits S T) _ h) in ((f .nodes, f .declarations, f .links), wf-points T .0 (and-r (fits S T) _ h)), λ (w, k). and-i (fits S T) _ (of-fits S T (record { nodes = w .0; declarations = w .1; links = w .2 })) (wf-points T .1 k))
+sound-points S T = (to, of)
+  where
+    to : sound S T ≡ true → Within S T × Points T
+    to h = let f : Fits S T = fits-of S T (and-l (fits S T) _ h) in ((f .nodes, f .declarations, f .links), wf-points T .0 (and-r (fits S T) _ h))
+
+    of : Within S T × Points T → sound S T ≡ true
+    of (w, k) = and-i (fits S T) _ (of-fits S T (record { nodes = w .0; declarations = w .1; links = w .2 })) (wf-points T .1 k)

@@ -1,26 +1,9 @@
 -- On sound tables resolve gives o exactly if o is present, Active and provides the port, and none exactly if there is no such owner; at most one there is.
-use mathlib.Core.Path.{_≡_, ap, refl}
-use mathlib.Core.Bool.{Bool, false, true}
-use mathlib.Core.List.{List, List·Memᴰ, List·Memᴰ·head, List·Memᴰ·tail}
-use mathlib.Core.Option.{Option, none, some}
-use mathlib.Core.Logic.{_↔_}
-use Prim.Native.Nat.{ℕ}
-use native.Mathlib.Omega.{arith}
-use Rattle.model.specs.declared.Declaration.{Declaration}
-use Rattle.model.specs.declared.Port.{Port}
-use Rattle.model.proofs.Laws.Booleans.{and-i}
-use Rattle.model.proofs.Laws.Facts.{facts, port-same}
-use Rattle.model.proofs.Laws.Lists.{at-in, in-at}
-use Rattle.model.proofs.Laws.Nodes.{present-lt}
-use Rattle.model.proofs.Laws.Phases.{active-is}
-use Rattle.model.proofs.Laws.Resolution.{Resolved, resolved}
-use Rattle.model.proofs.Theorems.Points.{at-node, node-at, to-present}
-use Rattle.model.specs.Lifecycle.{phaseAt}
-use Rattle.model.specs.Records.{provision}
-use Rattle.model.specs.Resolution.{Provides, offers, resolve}
-use Rattle.model.specs.Sizes.{Sizes}
-use Rattle.model.specs.Soundness.{sound}
-use Rattle.model.specs.Tables.{Tables, nodeAt, present, providing}
+use mathlib.Core.{Bool.Bool, Bool.false, Bool.true, List.List, List.List·Memᴰ, List.List·Memᴰ·head, List.List·Memᴰ·tail, Logic._↔_, Option.Option, Option.none, Option.some, Path._≡_, Path.ap, Path.refl}
+use Prim.Native.{Nat.ℕ}
+use native.Mathlib.{Omega.arith}
+use Rattle.model.specs.{Lifecycle.phaseAt, Records.provision, Resolution.Provides, Resolution.offers, Resolution.resolve, Sizes.Sizes, Soundness.sound, Tables.Tables, Tables.nodeAt, Tables.present, Tables.providing, declared.Port.Port, declared.records.Declaration.Declaration}
+use Rattle.model.proofs.{Laws.Booleans.and-i, Laws.Facts.facts, Laws.Facts.port-same, Laws.Lists.at-in, Laws.Lists.in-at, Laws.Nodes.present-lt, Laws.Phases.active-is, Laws.Resolution.Resolved, Laws.Resolution.resolved, Theorems.Points.at-node, Theorems.Points.node-at, Theorems.Points.to-present}
 
 offers-not-none : (f : ℕ → Bool) (p : Port) {ds : List Declaration} {d : Declaration} → List·Memᴰ d ds → offers f p d ≡ true → resolve f ds p ≡ none → ⊥
 unfolding resolve

@@ -1,54 +1,34 @@
 -- On a reached kernel a begin refused for link space is accepted after compact_bindings.
-use mathlib.Core.Path.{_∙_, _≡_, ap, refl, subst, sym}
-use mathlib.Core.Bool.{Bool, _&&_, cond, false, not, true}
-use mathlib.Core.List.{List, List·Memᴰ, List·Memᴰ·head, List·Memᴰ·tail, [], _∷_, map}
-use mathlib.Core.Option.{Option, none, some}
-use mathlib.Core.Logic.{_⊎_, inl, inr}
-use Prim.Native.Nat.{_+_, _<_, _≤_, suc, ℕ}
-use native.Mathlib.Omega.{arith}
-use native.Mathlib.Decide.{ℕ-discrete}
-use lib.Dec.{eqb}
-use lib.ListN.{length, length-map}
-use borrow.Author.Tests.{eq-eqb, le-ltb, ne-eqb}
-use Rattle.model.specs.declared.Binding.{Binding}
-use Rattle.model.specs.declared.Declaration.{Declaration}
-use Rattle.model.specs.declared.Error.{Error}
-use Rattle.model.specs.declared.Link.{Link}
-use Rattle.model.proofs.Laws.Booleans.{cases, not-f}
-use Rattle.model.proofs.Laws.Committed.{committed-idle}
-use Rattle.model.proofs.Laws.Facts.{Safe, Sound, facts}
-use Rattle.model.proofs.Laws.Lists.{is-some}
-use Rattle.model.proofs.Laws.Nodes.{present-lt}
-use Rattle.model.proofs.Laws.Refusals.{Passed, of-passed, skip}
-use Rattle.model.proofs.Laws.Resolution.{bound-ports, targeted}
-use Rattle.model.proofs.Laws.Sums.{plus, sum-at, sum-le, sum-mono, sum-same, sum-zero, sumTo}
-use Rattle.model.proofs.Theorems.Commands.{empty-sound, run-sound}
-use Rattle.model.proofs.Theorems.Kept.{empty-kept, from-kept}
-use Rattle.model.specs.Commands.{Command, Outcome, report, result, run, settle, step, tests}
-use Rattle.model.specs.Compaction.{bindingsCompacted}
-use Rattle.model.specs.Interface.{unknown}
-use Rattle.model.specs.Lifecycle.{beginTests, begun, bindings}
-use Rattle.model.specs.Lists.{isNone, keep}
-use Rattle.model.specs.Records.{isInactive, portOf}
-use Rattle.model.specs.Refusals.{Reply, first, number}
-use Rattle.model.specs.Resolution.{committed, dependencyPorts, isDependencyOf, isLiveLinkOf, target}
-use Rattle.model.specs.Sizes.{Sizes, lastGeneration}
-use Rattle.model.specs.Space.{RefusedForSpace, SpaceAfterCompaction}
-use Rattle.model.specs.Tables.{Tables, empty, nodeAt, notInactive, present}
+use mathlib.Core.{Bool.Bool, Bool._&&_, Bool.cond, Bool.false, Bool.not, Bool.true, List.List, List.List·Memᴰ, List.List·Memᴰ·head, List.List·Memᴰ·tail, List.[], List._++_, List._∷_, List.map, Logic._⊎_, Logic.inl, Logic.inr, Option.Option, Option.none, Option.some, Path._∙_, Path._≡_, Path.ap, Path.refl, Path.subst, Path.sym}
+use Prim.Native.{Nat._+_, Nat._<_, Nat._≤_, Nat.suc, Nat.ℕ}
+use native.Mathlib.{Decide.ℕ-discrete, Omega.arith}
+use lib.{Dec.eqb, ListN.length, ListN.length-map}
+use borrow.{Author.Tests.eq-eqb, Author.Tests.le-ltb, Author.Tests.ne-eqb}
+use Rattle.model.specs.{Commands.Command, Commands.Outcome, Commands.report, Commands.result, Commands.run, Commands.settle, Commands.step, Commands.tests, Compaction.bindingsCompacted, Lifecycle.beginNodeTests, Lifecycle.beginTests, Lifecycle.begun, Lifecycle.bindings, Lists.isNone, Lists.keep, Records.bindingIn, Records.consumerIn, Records.declaredPort, Records.isLive, Records.ownerIn, Records.portOf, Refusals.Reply, Refusals.Tests, Refusals.first, Refusals.number, Resolution.committed, Resolution.dependencyPorts, Resolution.isDependencyOf, Resolution.isLiveLinkOf, Resolution.target, Sizes.Sizes, Sizes.lastGeneration, Space.RefusedForSpace, Space.SpaceAfterCompaction, Tables.Tables, Tables.empty, Tables.nodeAt, Tables.notInactive, Tables.present, declared.Binding.Binding, declared.Error.Error, declared.records.Declaration.Declaration, declared.records.Link.Link}
+use Rattle.model.proofs.{Laws.Booleans.cases, Laws.Booleans.not-f, Laws.Committed.committed-idle, Laws.Facts.Safe, Laws.Facts.Sound, Laws.Facts.facts, Laws.Lists.is-some, Laws.Nodes.present-lt, Laws.Refusals.Passed, Laws.Refusals.of-passed, Laws.Refusals.skip, Laws.Resolution.bound-ports, Laws.Resolution.targeted, Laws.Sums.plus, Laws.Sums.sum-at, Laws.Sums.sum-le, Laws.Sums.sum-mono, Laws.Sums.sum-same, Laws.Sums.sum-zero, Laws.Sums.sumTo, Theorems.Commands.empty-sound, Theorems.Commands.run-sound, Theorems.Kept.empty-kept, Theorems.Kept.from-kept}
 
 -- ---- the live links, and the dependencies, by component
 
-live-sum : (n : ℕ) (ls : List Link) → ((l : Link) → List·Memᴰ l ls → l .live ≡ true → l .consumer < n) → length (keep (λ l. l .live) ls) ≤ sumTo n (λ i. length (committed ls i))
+live-sum : (n : ℕ) (ls : List Link) → ((l : Link) → List·Memᴰ l ls → l .live ≡ true → consumerIn l < n) → length (keep isLive ls) ≤ sumTo n (λ i. length (committed ls i))
 unfolding keep committed isLiveLinkOf
 live-sum n [] h = omega arith
 live-sum n (l ∷ ls) h = go (l .live) refl (live-sum n ls (λ m k. h m (List·Memᴰ·tail k)))
   where
-    more : (i : ℕ) (b : Bool) → length (map (λ l. l .binding) (cond b (l ∷ keep (isLiveLinkOf i) ls) (keep (isLiveLinkOf i) ls))) ≡ cond b 1 0 + length (committed ls i)
+    -- how many live links a consumer has among the rest, and with the first where that is its
+    held : ℕ → ℕ
+    held i = length (committed ls i)
+
+    with : ℕ → Bool → ℕ
+    with i b = length (map bindingIn (cond b (l ∷ keep (isLiveLinkOf i) ls) (keep (isLiveLinkOf i) ls)))
+
+    more : (i : ℕ) (b : Bool) → with i b ≡ cond b 1 0 + held i
     more i true = omega arith
     more i false = omega arith
 
-    go : (b : Bool) → l .live ≡ b → length (keep (λ l. l .live) ls) ≤ sumTo n (λ i. length (committed ls i)) → length (cond b (l ∷ keep (λ l. l .live) ls) (keep (λ l. l .live) ls)) ≤ sumTo n (λ i. length (map (λ l. l .binding) (cond (b && eqb (l .consumer) i) (l ∷ keep (isLiveLinkOf i) ls) (keep (isLiveLinkOf i) ls))))
-    go true e ih = omega (arith, sum-same n (λ i. length (map (λ l. l .binding) (cond (eqb (l .consumer) i) (l ∷ keep (isLiveLinkOf i) ls) (keep (isLiveLinkOf i) ls)))) (plus (l .consumer) 1 (λ i. length (committed ls i))) (λ i k. more i (eqb (l .consumer) i)), sum-at n (l .consumer) 1 (λ i. length (committed ls i)) (h l (List·Memᴰ·head refl) e))
+    go : (b : Bool) → l .live ≡ b → length (keep isLive ls) ≤ sumTo n held → length (cond b (l ∷ keep isLive ls) (keep isLive ls)) ≤ sumTo n (λ i. with i (b && eqb (consumerIn l) i))
+    go true e ih =
+        let same = sum-same n (λ i. with i (eqb (consumerIn l) i)) (plus (consumerIn l) 1 held) (λ i k. more i (eqb (consumerIn l) i)) in
+        omega (arith, same, sum-at n (consumerIn l) 1 held (h l (List·Memᴰ·head refl) e))
     go false e ih = ih
 
 ports-sum : (n : ℕ) (ds : List Declaration) → sumTo n (λ i. length (dependencyPorts ds i)) ≤ length ds
@@ -56,26 +36,49 @@ unfolding keep dependencyPorts isDependencyOf
 ports-sum n [] = omega (arith, sum-zero n)
 ports-sum n (d ∷ ds) = go (d .provides) (ports-sum n ds)
   where
-    more : (i : ℕ) (b : Bool) → length (map (λ d. d .port) (cond b (d ∷ keep (isDependencyOf i) ds) (keep (isDependencyOf i) ds))) ≡ cond b 1 0 + length (dependencyPorts ds i)
+    -- how many dependencies a component has among the rest, and with the first where that is its
+    wanted : ℕ → ℕ
+    wanted i = length (dependencyPorts ds i)
+
+    with : ℕ → Bool → ℕ
+    with i b = length (map declaredPort (cond b (d ∷ keep (isDependencyOf i) ds) (keep (isDependencyOf i) ds)))
+
+    more : (i : ℕ) (b : Bool) → with i b ≡ cond b 1 0 + wanted i
     more i true = omega arith
     more i false = omega arith
 
-    go : (b : Bool) → sumTo n (λ i. length (dependencyPorts ds i)) ≤ length ds → sumTo n (λ i. length (map (λ d. d .port) (cond (not b && eqb (d .owner) i) (d ∷ keep (isDependencyOf i) ds) (keep (isDependencyOf i) ds)))) ≤ suc (length ds)
+    go : (b : Bool) → sumTo n wanted ≤ length ds → sumTo n (λ i. with i (not b && eqb (ownerIn d) i)) ≤ suc (length ds)
     go true ih = omega (arith, ih)
-    go false ih = omega (arith, sum-same n (λ i. length (map (λ d. d .port) (cond (eqb (d .owner) i) (d ∷ keep (isDependencyOf i) ds) (keep (isDependencyOf i) ds)))) (plus (d .owner) 1 (λ i. length (dependencyPorts ds i))) (λ i k. more i (eqb (d .owner) i)), sum-le n (d .owner) 1 (λ i. length (dependencyPorts ds i)))
+    go false ih = omega (arith, sum-same n (λ i. with i (eqb (ownerIn d) i)) (plus (ownerIn d) 1 wanted) (λ i k. more i (eqb (ownerIn d) i)), sum-le n (ownerIn d) 1 wanted)
+
+-- the ports of an installed component's live links are its dependency ports
+abbrev PortsKept : Tables → Type 0
+PortsKept T = (j : ℕ) → notInactive (T .nodes) j ≡ true → map portOf (committed (T .links) j) ≡ dependencyPorts (T .declarations) j
 
 -- the live links and one idle component's dependencies are no more than the declarations
-room : (T : Tables) (id : ℕ) → Safe T → ((j : ℕ) → notInactive (T .nodes) j ≡ true → map portOf (committed (T .links) j) ≡ dependencyPorts (T .declarations) j) → present (T .nodes) id ≡ true → notInactive (T .nodes) id ≡ false → length (keep (λ l. l .live) (T .links)) + length (dependencyPorts (T .declarations) id) ≤ length (T .declarations)
+room :
+    (T : Tables) (id : ℕ) → Safe T → PortsKept T
+    → present (T .nodes) id ≡ true → notInactive (T .nodes) id ≡ false
+    → length (keep isLive (T .links)) + length (dependencyPorts (T .declarations) id) ≤ length (T .declarations)
 room T id k f t i =
-    omega (arith, live-sum n (T .links) (λ l m v. present-lt _ _ (k .live l m v .consumer-present)), ports-sum n (T .declarations), sum-at n id (length (dependencyPorts (T .declarations) id)) (λ j. length (committed (T .links) j)) (present-lt _ _ t), sum-mono n (plus id (length (dependencyPorts (T .declarations) id)) (λ j. length (committed (T .links) j))) (λ j. length (dependencyPorts (T .declarations) j)) (λ j. at-j j (ℕ-discrete id j) (cases (notInactive (T .nodes) j))))
+    let live = live-sum n (T .links) (λ l m v. present-lt _ _ (k .live l m v .consumer-present)) in
+    let mine = sum-at n id (wanted id) held (present-lt _ _ t) in
+    let others = sum-mono n (plus id (wanted id) held) wanted (λ j. at-j j (ℕ-discrete id j) (cases (notInactive (T .nodes) j))) in
+    omega (arith, live, ports-sum n (T .declarations), mine, others)
   where
     n : ℕ
     n = length (T .nodes)
 
+    held : ℕ → ℕ
+    held j = length (committed (T .links) j)
+
+    wanted : ℕ → ℕ
+    wanted j = length (dependencyPorts (T .declarations) j)
+
     none-of : (j : ℕ) → notInactive (T .nodes) j ≡ false → length (committed (T .links) j) ≡ 0
     none-of j x = ap length (committed-idle T j k x)
 
-    at-j : (j : ℕ) → Dec (id ≡ j) → (notInactive (T .nodes) j ≡ true) ⊎ (notInactive (T .nodes) j ≡ false) → cond (eqb id j) (length (dependencyPorts (T .declarations) id)) 0 + length (committed (T .links) j) ≤ length (dependencyPorts (T .declarations) j)
+    at-j : (j : ℕ) → Dec (id ≡ j) → (notInactive (T .nodes) j ≡ true) ⊎ (notInactive (T .nodes) j ≡ false) → cond (eqb id j) (wanted id) 0 + held j ≤ wanted j
     at-j j (yes e) x = rw (eq-eqb id j e, ← e) (omega (arith, none-of id i))
     at-j j (no d) (inl x) = rw (ne-eqb id j d) (omega (arith, sym (length-map (committed (T .links) j) portOf) ∙ ap length (f j x)))
     at-j j (no d) (inr x) = rw (ne-eqb id j d) (omega (arith, none-of j x))
@@ -83,13 +86,13 @@ room T id k f t i =
 -- ---- the theorem
 
 -- a row whose refusal is not that of its first test passes that test
-next : (b : Bool) (e x : Error) (ts : List (Bool × Error)) → (number e ≡ number x → ⊥) → first ((b, e) ∷ ts) ≡ some x → (b ≡ false) × (first ts ≡ some x)
+next : (b : Bool) (e x : Error) (ts : Tests) → (number e ≡ number x → ⊥) → first ((b, e) ∷ ts) ≡ some x → (b ≡ false) × (first ts ≡ some x)
 unfolding first
 next true e x ts d h = let y : e ≡ x = cc in absurd (d (ap number y))
 next false e x ts d h = (refl, h)
 
 -- the same, of a test that is known to pass
-next-known : (b : Bool) (e x : Error) (ts : List (Bool × Error)) → b ≡ false → first ((b, e) ∷ ts) ≡ some x → first ts ≡ some x
+next-known : (b : Bool) (e x : Error) (ts : Tests) → b ≡ false → first ((b, e) ∷ ts) ≡ some x → first ts ≡ some x
 next-known b e x ts f h = sym (skip b e ts f) ∙ h
 
 -- begin's refusal
@@ -103,7 +106,7 @@ begin-refusal S T id e h = go (first (beginTests S T id)) h
 
 -- every test of begin's row but the last
 abbrev BeforeSpace : Tables → ℕ → Type 0
-BeforeSpace T id = let n = nodeAt (T .nodes) id in Passed (unknown T id ∷ (not (isInactive (n .phase)), Error.InvalidState) ∷ (n .retired, Error.Retired) ∷ (eqb (n .generation) lastGeneration, Error.Capacity) ∷ (isNone (target T id), Error.MissingDependency) ∷ [])
+BeforeSpace T id = Passed (beginNodeTests (nodeAt (T .nodes) id) ++ ((isNone (target T id), Error.MissingDependency) ∷ []))
 
 before-space : (S : Sizes) (T : Tables) (id : ℕ) → RefusedForSpace S T id → BeforeSpace T id
 before-space S T id r =
@@ -117,13 +120,13 @@ before-space S T id r =
     (p1, (p2, (p3, (p4, (p5, tt)))))
 
 -- they pass on the compacted tables too, and there the links have space
-room-begin : (S : Sizes) (T : Tables) (id : ℕ) → S .declarations ≤ S .links → Sound S T → ((j : ℕ) → notInactive (T .nodes) j ≡ true → map portOf (committed (T .links) j) ≡ dependencyPorts (T .declarations) j) → BeforeSpace T id → Passed (beginTests S (bindingsCompacted T) id)
+room-begin : (S : Sizes) (T : Tables) (id : ℕ) → S .declarations ≤ S .links → Sound S T → PortsKept T → BeforeSpace T id → Passed (beginTests S (bindingsCompacted T) id)
 unfolding target
 room-begin S T id w k f p =
     let (bs, e) = is-some (target T id) (p .1 .1 .1 .1 .0) in
     let n : length bs ≡ length (dependencyPorts (T .declarations) id) = sym (length-map bs portOf) ∙ ap length (bound-ports _ _ bs (targeted T id bs e .is-bound)) in
-    let g : length (keep (λ l. l .live) (T .links)) + length bs ≤ S .links = omega (arith, n, k .sizes .declarations, room T id (k .safe) f (not-f _ (p .0)) (p .1 .0)) in
-    (p .0, (p .1 .0, (p .1 .1 .0, (p .1 .1 .1 .0, (p .1 .1 .1 .1 .0, (le-ltb _ _ (subst (λ (o : Option (List Binding)). length (keep (λ l. l .live) (T .links)) + length (bindings o) ≤ S .links) (sym e) g), tt))))))
+    let g : length (keep isLive (T .links)) + length bs ≤ S .links = omega (arith, n, k .sizes .declarations, room T id (k .safe) f (not-f _ (p .0)) (p .1 .0)) in
+    (p .0, (p .1 .0, (p .1 .1 .0, (p .1 .1 .1 .0, (p .1 .1 .1 .1 .0, (le-ltb _ _ (subst (λ (o : Option (List Binding)). length (keep isLive (T .links)) + length (bindings o) ≤ S .links) (sym e) g), tt))))))
 
 accepted : (S : Sizes) (T : Tables) (c : Command) → Passed (tests S T c) → step S T c ≡ record { tables = result T c; reply = report T c }
 unfolding step settle

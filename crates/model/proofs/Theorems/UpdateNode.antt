@@ -1,53 +1,33 @@
 -- update_node keeps soundness without the last point.
--- a live link that does not block the new node's consumer, or its provider
-use mathlib.Core.Bool.{Bool, _&&_, _||_, false, not, true}
-use mathlib.Core.List.{List, List·Memᴰ, List·Memᴰ·head, List·Memᴰ·tail, [], _∷_}
-use mathlib.Core.Logic.{_⊎_, inl, inr}
-use mathlib.Core.Option.{Option, none, some}
-use mathlib.Core.Path.{_∙_, _≡_, ap, refl}
-use Prim.Native.Nat.{ℕ}
-use lib.Dec.{eqb}
-use borrow.Author.Tests.{eq-eqb, eqb-true, ne-eqb}
-use Rattle.model.specs.declared.Error.{Error}
-use Rattle.model.specs.declared.Link.{Link}
-use Rattle.model.specs.declared.Node.{Node}
-use Rattle.model.specs.declared.Parent.{Parent}
-use Rattle.model.proofs.Laws.Booleans.{Each, and-i, and-l, and-r, cases, clash, each, f-not, imp-e, imp-i, not-f, not-t, of-each, or-f-l, or-f-r}
-use Rattle.model.proofs.Laws.Facts.{LiveOk, Safe, fits-of, of-fits, of-safe, safe-of}
-use Rattle.model.proofs.Laws.Lists.{none-in}
-use Rattle.model.proofs.Laws.Nodes.{node-in, present-lt}
-use Rattle.model.proofs.Laws.Phases.{unloading-installed}
-use Rattle.model.proofs.Laws.Refusals.{Passed, of-passed, passed, skip}
-use Rattle.model.proofs.Laws.Update.{Update, fits-update, safe-update}
-use Rattle.model.specs.Commands.{settle, updateNode}
-use Rattle.model.specs.Lifecycle.{relies, retiredTests, unloadingTests}
-use Rattle.model.specs.Lists.{any}
-use Rattle.model.specs.Records.{absentNode, consistencyTests, hasParent, isChildOf, isConsistent, isInactive, isUnloading, restoringNode}
-use Rattle.model.specs.Refusals.{Reply, first}
-use Rattle.model.specs.Sizes.{Sizes}
-use Rattle.model.specs.Soundness.{fits, safetyWf}
-use Rattle.model.specs.Tables.{Tables, nodeAt, notInactive, present, withNode}
-use Rattle.model.specs.UpdateNode.{blocks, idle, updateTests}
+use mathlib.Core.{Bool.Bool, Bool._&&_, Bool._||_, Bool.false, Bool.not, Bool.true, List.List, List.List·Memᴰ, List.List·Memᴰ·head, List.List·Memᴰ·tail, List.[], List._∷_, Logic._⊎_, Logic.inl, Logic.inr, Option.Option, Option.none, Option.some, Path._∙_, Path._≡_, Path.ap, Path.refl}
+use Prim.Native.{Nat.ℕ}
+use lib.{Dec.eqb}
+use borrow.{Author.Tests.eq-eqb, Author.Tests.eqb-true, Author.Tests.ne-eqb}
+use Rattle.model.specs.{Commands.settle, Commands.updateNode, Lifecycle.relies, Lifecycle.retiredTests, Lifecycle.unloadingTests, Lists.any, Records.absentNode, Records.consistencyTests, Records.consumerIn, Records.hasParent, Records.isChildOf, Records.isConsistent, Records.isInactive, Records.isUnloading, Records.parentIn, Records.providerIn, Records.restoringNode, Refusals.Reply, Refusals.first, Sizes.Sizes, Soundness.fits, Soundness.safetyWf, Tables.Tables, Tables.nodeAt, Tables.notInactive, Tables.present, Tables.withNode, UpdateNode.blocks, UpdateNode.idle, UpdateNode.updateTests, declared.Error.Error, declared.Parent.Parent, declared.records.Link.Link, declared.records.Node.Node}
+use Rattle.model.proofs.{Laws.Booleans.Each, Laws.Booleans.and-i, Laws.Booleans.and-l, Laws.Booleans.and-r, Laws.Booleans.cases, Laws.Booleans.clash, Laws.Booleans.each, Laws.Booleans.f-not, Laws.Booleans.imp-e, Laws.Booleans.imp-i, Laws.Booleans.not-f, Laws.Booleans.not-t, Laws.Booleans.of-each, Laws.Booleans.or-f-l, Laws.Booleans.or-f-r, Laws.Facts.Safe, Laws.Facts.fits-of, Laws.Facts.of-fits, Laws.Facts.of-safe, Laws.Facts.safe-of, Laws.Lists.none-in, Laws.Nodes.node-in, Laws.Nodes.present-lt, Laws.Phases.unloading-installed, Laws.Refusals.Passed, Laws.Refusals.of-passed, Laws.Refusals.passed, Laws.Refusals.skip, Laws.Update.Update, Laws.Update.fits-update, Laws.Update.safe-update}
 
+-- a live link that does not block the new node's consumer, or its provider
 module _ (id : ℕ) (n : Node) (l : Link) (v : l .live ≡ true) (h : blocks id n l ≡ false) where
-  free : eqb (l .consumer) id && idle n || eqb (l .binding .provider) id && (idle n || n .restoring) ≡ false
+  free : eqb (consumerIn l) id && idle n || eqb (providerIn l) id && (idle n || n .restoring) ≡ false
   unfolding blocks
   free = rw v at h
 
-  pub unblocked-consumer : l .consumer ≡ id → (n .present ≡ true) × (not (isInactive (n .phase)) ≡ true)
+  pub unblocked-consumer : consumerIn l ≡ id → (n .present ≡ true) × (not (isInactive (n .phase)) ≡ true)
   unblocked-consumer e =
-      let x : idle n ≡ false = rw (eq-eqb _ _ e) at (or-f-l (eqb (l .consumer) id && idle n) _ free) in
+      let x : idle n ≡ false = rw (eq-eqb _ _ e) at (or-f-l (eqb (consumerIn l) id && idle n) _ free) in
       (not-f _ (or-f-l (not (n .present)) _ x), f-not _ (or-f-r (not (n .present)) _ x))
 
-  pub unblocked-provider : l .binding .provider ≡ id → (n .present ≡ true) × (not (isInactive (n .phase)) ≡ true) × (n .restoring ≡ false)
+  pub unblocked-provider : providerIn l ≡ id → (n .present ≡ true) × (not (isInactive (n .phase)) ≡ true) × (n .restoring ≡ false)
   unblocked-provider e =
-      let x : idle n || n .restoring ≡ false = rw (eq-eqb _ _ e) at (or-f-r (eqb (l .consumer) id && idle n) _ free) in
+      let x : idle n || n .restoring ≡ false = rw (eq-eqb _ _ e) at (or-f-r (eqb (consumerIn l) id && idle n) _ free) in
       let y : idle n ≡ false = or-f-l (idle n) _ x in
       (not-f _ (or-f-l (not (n .present)) _ y), f-not _ (or-f-r (not (n .present)) _ y), or-f-r (idle n) _ x)
 
 -- no present node has this parent
-pub no-child : (T : Tables) (id i : ℕ) → any (isChildOf id) (T .nodes) ≡ false → present (T .nodes) i ≡ true → (nodeAt (T .nodes) i) .parent ≡ Parent.Of id → ⊥
-no-child T id i c a e = clash {A = ⊥} _ (and-i ((nodeAt (T .nodes) i) .present) (hasParent id ((nodeAt (T .nodes) i) .parent)) a (rw e (eq-eqb id id refl))) (none-in (isChildOf id) (node-in (T .nodes) i (present-lt _ _ a)) c)
+pub no-child : (T : Tables) (id i : ℕ) → any (isChildOf id) (T .nodes) ≡ false → present (T .nodes) i ≡ true → parentIn (nodeAt (T .nodes) i) ≡ Parent.Of id → ⊥
+no-child T id i c a e =
+    let child = and-i ((nodeAt (T .nodes) i) .present) (hasParent id (parentIn (nodeAt (T .nodes) i))) a (rw e (eq-eqb id id refl)) in
+    clash {A = ⊥} _ child (none-in (isChildOf id) (node-in (T .nodes) i (present-lt _ _ a)) c)
 
 pub update-passed : (T : Tables) (id : ℕ) (n : Node) → Passed (updateTests T id n) → Update T id n
 update-passed T id n p =
@@ -63,7 +43,7 @@ update-passed T id n p =
       provides = λ l m v f. unblocked-provider id n l v (none-in (blocks id n) m (p .1 .1 .1 .1 .0)) f;
     }
   where
-    go : (i : ℕ) → present (T .nodes) i ≡ true → (nodeAt (T .nodes) i) .parent ≡ Parent.Of id → (n .present ≡ true) ⊎ (n .present ≡ false) → n .present ≡ true
+    go : (i : ℕ) → present (T .nodes) i ≡ true → parentIn (nodeAt (T .nodes) i) ≡ Parent.Of id → (n .present ≡ true) ⊎ (n .present ≡ false) → n .present ≡ true
     go i a f (inl x) = x
     go i a f (inr x) = absurd (no-child T id i (rw x at (p .1 .1 .1 .0)) a f)
 
@@ -88,12 +68,12 @@ updateNode-fits S T id n h = go (first (updateTests T id n))
 -- a live link of the tables does not block a node that may be written
 unblocked : (T : Tables) (id : ℕ) (n : Node) → Update T id n → (l : Link) → List·Memᴰ l (T .links) → blocks id n l ≡ false
 unfolding blocks
-unblocked T id n u l m = go (l .live) refl (eqb (l .consumer) id) refl (eqb (l .binding .provider) id) refl
+unblocked T id n u l m = go (l .live) refl (eqb (consumerIn l) id) refl (eqb (providerIn l) id) refl
   where
     ready : (n .present ≡ true) × (not (isInactive (n .phase)) ≡ true) → idle n ≡ false
     ready (a, b) = rw (a, not-t (isInactive (n .phase)) b)
 
-    go : (v : Bool) → l .live ≡ v → (c : Bool) → eqb (l .consumer) id ≡ c → (p : Bool) → eqb (l .binding .provider) id ≡ p → v && (c && idle n || p && (idle n || n .restoring)) ≡ false
+    go : (v : Bool) → l .live ≡ v → (c : Bool) → eqb (consumerIn l) id ≡ c → (p : Bool) → eqb (providerIn l) id ≡ p → v && (c && idle n || p && (idle n || n .restoring)) ≡ false
     go false e c f p g = refl
     go true e false f false g = refl
     go true e true f false g = rw (ready (u .consumes l m e (eqb-true _ _ f)))
@@ -107,11 +87,18 @@ none-any p (x ∷ xs) f = rw (f x (List·Memᴰ·head refl), none-any p xs (λ y
 
 -- the tests before those of children and links
 consistent-of : (T : Tables) (id : ℕ) (n : Node) → Update T id n → (n .present ≡ false → n .restoring ≡ false) → isConsistent n ≡ true
-consistent-of T id n u k = of-each (consistencyTests n) (imp-i (not (n .present)) (isInactive (n .phase)) (λ a. u .absent-inactive (not-t _ a)), (imp-i (not (n .present)) (not (n .restoring)) (λ a. f-not _ (k (not-t _ a))), (imp-i (n .restoring) (n .present) (u .restoring-present), (imp-i (n .restoring) (isUnloading (n .phase)) (u .restoring-unloading), tt))))
+consistent-of T id n u k =
+    let inactive = imp-i (not (n .present)) (isInactive (n .phase)) (λ a. u .absent-inactive (not-t _ a)) in
+    let kept = imp-i (not (n .present)) (not (n .restoring)) (λ a. f-not _ (k (not-t _ a))) in
+    let there = imp-i (n .restoring) (n .present) (u .restoring-present) in
+    let unloading = imp-i (n .restoring) (isUnloading (n .phase)) (u .restoring-unloading) in
+    of-each (consistencyTests n) (inactive, (kept, (there, (unloading, tt))))
 
 -- a present node that may be written passes every test
 pub update-accepts : (T : Tables) (id : ℕ) (n : Node) → Update T id n → n .present ≡ true → first (updateTests T id n) ≡ none
-update-accepts T id n u p = of-passed (updateTests T id n) (rw (u .there), (rw (consistent-of T id n u (λ a. clash _ p a)), (rw (p, u .parent-ok p), (rw p, (none-any (blocks id n) (T .links) (unblocked T id n u), tt)))))
+update-accepts T id n u p =
+    let none = none-any (blocks id n) (T .links) (unblocked T id n u) in
+    of-passed (updateTests T id n) (rw (u .there), (rw (consistent-of T id n u (λ a. clash _ p a)), (rw (p, u .parent-ok p), (rw p, (none, tt)))))
 
 -- ---- what is left of its row where a command has tested its node on sound tables
 
@@ -131,7 +118,7 @@ module _ (T : Tables) (id : ℕ) (k : Safe T) (p : Passed (unloadingTests (nodeA
 
   restoring-blocks : (l : Link) → blocks id (restoringNode (nodeAt (T .nodes) id)) l ≡ relies id l
   unfolding blocks relies
-  restoring-blocks l = rw not-idle (ap (λ (b : Bool). l .live && b) (go (eqb (l .consumer) id) (eqb (l .binding .provider) id)))
+  restoring-blocks l = rw not-idle (ap (λ (b : Bool). l .live && b) (go (eqb (consumerIn l) id) (eqb (providerIn l) id)))
     where
       go : (a b : Bool) → a && false || b && true ≡ b
       go true true = refl
@@ -140,7 +127,12 @@ module _ (T : Tables) (id : ℕ) (k : Safe T) (p : Passed (unloadingTests (nodeA
       go false false = refl
 
   pub update-to-restoring : first (updateTests T id (restoringNode (nodeAt (T .nodes) id))) ≡ first ((any (relies id) (T .links), Error.Relied) ∷ [])
-  update-to-restoring = skip _ _ _ (rw there) ∙ skip _ _ _ (rw restoring-consistent) ∙ skip _ _ _ (rw (there, k .nodes id .parent-ok there)) ∙ skip _ _ _ (rw there) ∙ ap (λ (f : Link → Bool). first ((any f (T .links), Error.Relied) ∷ [])) (λ i l. restoring-blocks l i)
+  update-to-restoring =
+      skip _ _ _ (rw there)
+      ∙ skip _ _ _ (rw restoring-consistent)
+      ∙ skip _ _ _ (rw (there, k .nodes id .parent-ok there))
+      ∙ skip _ _ _ (rw there)
+      ∙ ap (λ (f : Link → Bool). first ((any f (T .links), Error.Relied) ∷ [])) (λ i l. restoring-blocks l i)
 
 -- a last test that does not apply
 drop-last : (b : Bool) (e x : Error) → first ((b, e) ∷ (false, x) ∷ []) ≡ first ((b, e) ∷ [])
@@ -171,8 +163,15 @@ module _ (T : Tables) (id : ℕ) (k : Safe T) (p : Passed (retiredTests (nodeAt 
       away i h e = clash {A = ⊥} (isInactive ((nodeAt (T .nodes) id) .phase)) was-inactive (not-t (isInactive ((nodeAt (T .nodes) id) .phase)) (rw e at h))
 
       go : (l .live ≡ true) ⊎ (l .live ≡ false) → blocks id (absentNode (nodeAt (T .nodes) id)) l ≡ false
-      go (inl v) = let o : LiveOk (T .nodes) (T .declarations) (l .consumer) (l .binding) = k .live l m v in rw (v, ne-eqb (l .consumer) id (away (l .consumer) (o .consumer-installed)), ne-eqb (l .binding .provider) id (away (l .binding .provider) (o .provider-installed)))
+      go (inl v) = let o = k .live l m v in rw (v, ne-eqb (consumerIn l) id (away (consumerIn l) (o .consumer-installed)), ne-eqb (providerIn l) id (away (providerIn l) (o .provider-installed)))
       go (inr v) = rw v
 
   pub update-to-absent : first (updateTests T id (absentNode (nodeAt (T .nodes) id))) ≡ first ((any (isChildOf id) (T .nodes), Error.Children) ∷ [])
-  update-to-absent = skip _ _ _ (rw was-there) ∙ skip _ _ _ (rw (was-inactive, was-kept)) ∙ skip false Error.Unknown _ refl ∙ ap (λ (b : Bool). first ((any (isChildOf id) (T .nodes), Error.Children) ∷ (b, Error.Relied) ∷ [])) (none-any (blocks id (absentNode (nodeAt (T .nodes) id))) (T .links) no-end) ∙ drop-last (any (isChildOf id) (T .nodes)) Error.Children Error.Relied
+  update-to-absent =
+      let children = any (isChildOf id) (T .nodes) in
+      let none = none-any (blocks id (absentNode (nodeAt (T .nodes) id))) (T .links) no-end in
+      skip _ _ _ (rw was-there)
+      ∙ skip _ _ _ (rw (was-inactive, was-kept))
+      ∙ skip false Error.Unknown _ refl
+      ∙ ap (λ (b : Bool). first ((children, Error.Children) ∷ (b, Error.Relied) ∷ [])) none
+      ∙ drop-last children Error.Children Error.Relied

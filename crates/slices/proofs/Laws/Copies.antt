@@ -1,10 +1,10 @@
 -- The port list that a loop fills from a slice: nothing of it at first, one more port a turn, and at last the slice's port list.
-use mathlib.Core.Path.{_∙_, _≡_, ap, subst, sym}
-use mathlib.Core.List.{List, [], _++_, _∷_, append-nil}
+use mathlib.Core.Path.{_∙_, _≡_, ap, sym}
+use mathlib.Core.List.{List, _++_, append-nil}
 use Prim.Native.Nat.{_-_, _<_, suc, ℕ}
 use native.Mathlib.Omega.{arith}
 use native.Mathlib.Decide.{decLt}
-use lib.ListN.{getD, length, replicate, set, take}
+use lib.ListN.{getD, length, replicate, take}
 use lib.Seq.{length-take-le, take-all, take-append-le, take-suc}
 use Rattle.model.proofs.Laws.Arrays.{length-padded, snoc-padded}
 use Rattle.model.specs.declared.Port.{Port}
@@ -13,7 +13,7 @@ use Rattle.model.specs.Interface.{portList}
 use Rattle.model.specs.Lists.{padded}
 use Rattle.model.specs.Records.{blankPort}
 use Rattle.model.specs.Sizes.{listLimit}
-use Rattle.scans.specs.Answers.{AtMost}
+use Rattle.loops.specs.Limits.{AtMost}
 use Rattle.slices.specs.Copies.{copyOf, withPort}
 
 module _ (xs : List Port) where
@@ -26,9 +26,8 @@ module _ (xs : List Port) where
   copied-next i l m =
       let x = getD xs i blankPort in
       let len : length (take i xs) ≡ i = length-take-le i xs (omega arith) in
-      let put : set (padded listLimit blankPort (take i xs)) (length (take i xs)) x ≡ padded listLimit blankPort (take i xs ++ (x ∷ [])) = snoc-padded listLimit blankPort (take i xs) x (omega (arith, len, l)) in
-      let at : set (padded listLimit blankPort (take i xs)) i x ≡ padded listLimit blankPort (take i xs ++ (x ∷ [])) = subst (λ (j : ℕ). set (padded listLimit blankPort (take i xs)) j x ≡ padded listLimit blankPort (take i xs ++ (x ∷ []))) len put in
-      ap (λ (ps : List Port). record { ports = ps; count = length xs }) (at ∙ ap (padded listLimit blankPort) (sym (take-suc xs i blankPort m)))
+      let put = rw len at (snoc-padded listLimit blankPort (take i xs) x (omega (arith, len, l))) in
+      ap (λ (ps : List Port). record { ports = ps; count = length xs }) (put ∙ ap (padded listLimit blankPort) (sym (take-suc xs i blankPort m)))
 
   -- a slice over 32 fills the list; the blanks behind a shorter one are the list's
   pub copied-all : (end : ℕ) → AtMost (length xs) listLimit end → copied end ≡ portList xs
@@ -40,5 +39,8 @@ module _ (xs : List Port) where
           let e : end ≡ listLimit = m .whole l in
           let len : length (take end xs) ≡ end = length-take-le end xs (omega arith) in
           let none : listLimit - length (take end xs) ≡ 0 = omega (arith, len, e) in
-          ap (λ (n : ℕ). take end xs ++ replicate n blankPort) none ∙ append-nil (take end xs) ∙ ap (λ (n : ℕ). take n xs) e ∙ sym (take-append-le listLimit xs (replicate (listLimit - length xs) blankPort) (omega (arith, e, l)))
-      go (no l) = ap (padded listLimit blankPort) (take-all end xs (omega arith)) ∙ sym (take-all listLimit (padded listLimit blankPort xs) (omega (arith, length-padded listLimit blankPort xs (omega (arith, m .within, l)))))
+          let first = take-append-le listLimit xs (replicate (listLimit - length xs) blankPort) (omega (arith, e, l)) in
+          ap (λ (n : ℕ). take end xs ++ replicate n blankPort) none ∙ append-nil (take end xs) ∙ ap (λ (n : ℕ). take n xs) e ∙ sym first
+      go (no l) =
+          let len : length (padded listLimit blankPort xs) ≡ listLimit = length-padded listLimit blankPort xs (omega (arith, m .within, l)) in
+          ap (padded listLimit blankPort) (take-all end xs (omega arith)) ∙ sym (take-all listLimit (padded listLimit blankPort xs) (omega (arith, len)))

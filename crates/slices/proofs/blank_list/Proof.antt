@@ -5,12 +5,9 @@ use Rattle.slices.specs.Copies.{copyOf}
 use Rattle.slices.proofs.blank_list.Statement.{statement}
 use Rattle.slices.proofs.blank_list.Tie as tie
 
-blank-port-requires : tie.Need-blank-port-requires
-blank-port-requires c κs = search needs
-
 returns : tie.Need-returns
 unfolding copyOf padded
 returns c = cc
 
 pub blank-list-spec : {M : Type 1} → statement M
-blank-list-spec = tie.close (tie.spec blank-port-requires returns)
+blank-list-spec = tie.close (tie.spec (λ c κs. search needs) returns)

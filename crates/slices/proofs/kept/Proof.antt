@@ -3,11 +3,8 @@ use borrow.Author.Needs.{needs}
 use Rattle.slices.proofs.kept.Statement.{statement}
 use Rattle.slices.proofs.kept.Tie as tie
 
-at-most-requires : tie.Need-at-most-requires
-at-most-requires c κs = search needs
-
 returns : tie.Need-returns
 returns c = c .at-most .ensures
 
 pub kept-spec : {M : Type 1} → statement M
-kept-spec = tie.close (tie.spec at-most-requires returns)
+kept-spec = tie.close (tie.spec (λ c κs. search needs) returns)

@@ -1,27 +1,22 @@
 -- `kernel::Kernel::begin` meets its contract. In the loop the array holds the links below the count and a live link for each of the first i bindings, then blanks.
-use mathlib.Core.Path.{_∙_, _≡_, ap, sym}
-use Prim.Native.Nat.{_-_, _≤_}
-use native.Mathlib.Numerals.{add-one}
-use native.Mathlib.Omega.{arith}
-use lib.ListN.{getD, length}
-use borrow.Author.Needs.{needs}
-use borrow.Author.Tests.{eqb-false}
-use Rattle.kernel.specs.declared.Kernel.{Kernel}
-use Rattle.model.specs.declared.Answer.{Answer}
-use Rattle.model.specs.declared.Error.{Error}
-use Rattle.kernel.proofs.Laws.Begin.{begun-laid, linked-next, linked-start, linkedTo, links-within, space-none, space-some, target-full, target-missing, target-most}
-use Rattle.kernel.proofs.Laws.Commanded.{accepted-by, damaged, node-passed, node-past, node-refused, past-unknown, refused-by}
-use Rattle.kernel.proofs.Laws.Declared.{full}
-use Rattle.kernel.proofs.Laws.Sized.{sized}
-use Rattle.kernel.proofs.Laws.Target.{target-held}
-use Rattle.kernel.specs.Outcomes.{outcome}
-use Rattle.model.proofs.Laws.Refusals.{done-passed, skip, stop}
-use Rattle.model.specs.Commands.{Command}
-use Rattle.model.specs.Lifecycle.{beginNodeTests}
-use Rattle.model.specs.Records.{blankNode}
-use Rattle.model.specs.Resolution.{target}
-use Rattle.kernel.proofs.Kernel.begin.Statement.{statement}
+use mathlib.Core.{List.List, List.[], List._++_, List.append-nil, List.map, Option.some, Path._∙_, Path._≡_, Path.ap, Path.sym}
+use Prim.Native.{Nat._+_, Nat._-_, Nat._≤_, Nat.ℕ}
+use native.Mathlib.{Numerals.add-one, Omega.arith}
+use lib.{ListN.getD, ListN.length, ListN.take, Seq.length-take-le}
+use borrow.{Author.Needs.needs, Author.Tests.eqb-false}
+use Rattle.kernel.specs.{Fields.layoutOf, Outcomes.command, Outcomes.outcome, declared.Kernel.Kernel}
+use Rattle.model.specs.{Commands.Command, Commands.tests, Layouts.tablesOf, Lists.padded, Records.blankBinding, Records.blankLink, Records.blankNode, Records.liveLink, Refusals.first, declared.Answer.Answer, declared.Binding.Binding, declared.Error.Error, declared.checks.Row.Row, declared.records.Link.Link, declared.records.Node.Node}
+use Rattle.scans.specs.{declared.TargetBindings.TargetBindings}
+use Rattle.kernel.proofs.{Kernel.begin.Statement.statement, Laws.Outcomes.hands-accepted, Laws.Outcomes.hands-damaged, Laws.Outcomes.hands-refused, Laws.Sized.sized, Laws.Targets.held}
+use Rattle.layouts.proofs.{Laws.Nodes.Beginnable, Laws.Nodes.Tested, Laws.Nodes.array-tests, Laws.Nodes.beginnable, Laws.Nodes.is-present, Laws.Nodes.node-refuses, Laws.Nodes.past-unknown, Laws.Nodes.rest, Laws.Nodes.tested-array, Laws.Sound.SoundKernel, Laws.Sound.laid, Laws.Sound.links-laid, Laws.Sound.tested-sound, Laws.Targets.Held, Laws.Targets.begun-laid, Laws.Targets.space-none, Laws.Targets.space-some, Laws.Targets.target-missing, Laws.Targets.target-most, Laws.Targets.target-width}
+use Rattle.loops.proofs.{Laws.Edit.appended-next}
+use Rattle.model.proofs.{Laws.Refusals.of-passed, Laws.Refusals.skip, Laws.Refusals.stop}
+use Rattle.sizes.specs.{Sizes.LINKS, Sizes.sizes}
 use Rattle.kernel.proofs.Kernel.begin.Tie as tie
+
+-- the links below the count and behind them the live links of the first i bindings
+abbrev linkedTo : List Link → ℕ → ℕ → List Binding → ℕ → List Link
+linkedTo ls id count bs i = padded LINKS blankLink (take count ls ++ map (liveLink id) (take i bs))
 
 abbrev Inv-loop : tie.InvT-loop
 Inv-loop self id count target more linked links₀ i₀ links i = (i ≤ more) × (links ≡ linkedTo links₀ id linked (target .bindings) i)
@@ -29,203 +24,120 @@ Inv-loop self id count target more linked links₀ i₀ links i = (i ≤ more) �
 abbrev μ-loop : tie.MeasureT-loop
 μ-loop self id count target more linked links₀ i₀ links i = more - i
 
-sound-requires : tie.Need-sound-requires Inv-loop μ-loop
-sound-requires c κs = search needs
+-- past the entry test: the kernel, sound, and what it is asked
+module _ (e : tie.Else1 Inv-loop μ-loop) where
+  abbrev k : Kernel
+  k = e .before .before .args .self
+
+  abbrev id : ℕ
+  id = e .before .before .args .id
+
+  abbrev node : Node
+  node = getD (k .nodes) id blankNode
+
+  K : SoundKernel sizes (layoutOf k)
+  K = tested-sound (sized k (e .before .before .good .0, tt)) (e .before .sound .ensures) (e .if1 .left)
+
+  refuses : {x : Error} → first (tests sizes (tablesOf (layoutOf k)) (Command.begin id)) ≡ some x → record { kernel = k; answer = Answer.Refused x } ≡ outcome (command k (Command.begin id))
+  refuses = hands-refused K (Command.begin id)
+
+-- the node's tests answered
+abbrev entered : tie.After-check-begin Inv-loop μ-loop → tie.Else1 Inv-loop μ-loop
+entered a = a .before .before .before .before
+
+-- and passed
+module _ (h : tie.After-enum-told Inv-loop μ-loop) where
+  abbrev start : tie.Else1 Inv-loop μ-loop
+  start = entered (h .before .before)
+
+  P : Tested sizes (layoutOf (k start)) Row.Begin (id start)
+  P = tested-array (K start) (id start) Row.Begin (h .before .before .check-begin .ensures) (h .enum-told .given .1)
+
+  can : Beginnable (node start)
+  can = beginnable (node start) (array-tests P)
+
+-- the target looked up
+module _ (f : tie.After-target-table Inv-loop μ-loop) where
+  abbrev checked : tie.After-enum-told Inv-loop μ-loop
+  checked = f .before .before
+
+  abbrev e : tie.Else1 Inv-loop μ-loop
+  e = start checked
+
+  abbrev r : TargetBindings
+  r = f .target-table .result
+
+  H : Held sizes (layoutOf (k e)) (id e) (r .there) (r .bindings) (r .count)
+  H = held (K e) (id e) r (f .target-table .ensures) (rw (can checked .present, can checked .not-retired))
+
+-- past the last test; at the loop; in a turn, after the call that makes the link
+abbrev found : tie.Else4 Inv-loop μ-loop → tie.After-target-table Inv-loop μ-loop
+found g = g .before .before
+
+abbrev roomy : tie.At-loop Inv-loop μ-loop → tie.Else4 Inv-loop μ-loop
+roomy l = l .before .before .before .before
+
+abbrev turn : tie.After-live-link Inv-loop μ-loop → tie.At-loop Inv-loop μ-loop
+turn c = c .before .before .before
+
+within : (l : tie.At-loop Inv-loop μ-loop) → k (e (found (roomy l))) .«link_count» ≤ LINKS
+within l = laid (K (e (found (roomy l)))) .links
 
 returns : tie.Need-returns Inv-loop μ-loop
-returns c =
-    let a = c .before .before .args in
-    sym (ap outcome (damaged (a .self) (Command.begin (a .id)) (c .before .sound .result) (c .before .sound .ensures) (c .if1 .taken)))
+returns c = hands-damaged (c .before .before .args .self) (Command.begin (c .before .before .args .id)) (c .before .sound .ensures) (c .if1 .taken)
 
 returns-2 : tie.Need-returns-2 Inv-loop μ-loop
-returns-2 c =
-    let s = c .before .before .before in
-    let k = s .args .self in
-    let z = sized k (s .good .0, tt) in
-    let v = c .before .before .sound in
-    let t = c .before .if1 .left in
-    sym (ap outcome (refused-by k z (v .result) (v .ensures) t (Command.begin (s .args .id)) Error.Unknown (past-unknown k z (v .result) (v .ensures) t (s .args .id) _ (c .if2 .taken))))
-
-mul-node : tie.Need-mul-node Inv-loop μ-loop
-mul-node c = search needs
-
-array-copy-out-node : tie.Need-array-copy-out-node Inv-loop μ-loop
-array-copy-out-node c = search needs
-
-check-begin-requires : tie.Need-check-begin-requires Inv-loop μ-loop
-check-begin-requires c κs = search needs
-
-enum-known-checked : tie.Need-enum-known-checked Inv-loop μ-loop
-enum-known-checked c = search needs
+returns-2 c = refuses (c .before) (past-unknown (K (c .before)) (id (c .before)) _ (c .if2 .taken))
 
 returns-3 : tie.Need-returns-3 Inv-loop μ-loop
 returns-3 c =
-    let s = c .before .before .before .before .before .before .before .before .before in
-    let k = s .args .self in
-    let z = sized k (s .good .0, tt) in
-    let v = c .before .before .before .before .before .before .before .before .sound in
-    let t = c .before .before .before .before .before .before .before .if1 .left in
-    sym (ap outcome (refused-by k z (v .result) (v .ensures) t (Command.begin (s .args .id)) _ (node-refused k z (v .result) (v .ensures) t (s .args .id) beginNodeTests _ _ _ (c .before .before .before .check-begin .ensures) (c .before .checked .given .1))))
-
-enum-told : tie.Need-enum-told Inv-loop μ-loop
-enum-told c = search needs
-
-target-table-requires : tie.Need-target-table-requires Inv-loop μ-loop
-target-table-requires c κs = search needs
+    let a = c .before .before .before in
+    let e = entered a in
+    refuses e (node-refuses (K e) (id e) Row.Begin (a .check-begin .ensures) _ (c .before .checked .given .1))
 
 returns-4 : tie.Need-returns-4 Inv-loop μ-loop
-returns-4 c =
-    let s = c .before .before .before .before .before .before .before .before .before .before .before in
-    let k = s .args .self in
-    let z = sized k (s .good .0, tt) in
-    let v = c .before .before .before .before .before .before .before .before .before .before .sound in
-    let t = c .before .before .before .before .before .before .before .before .before .if1 .left in
-    let q = done-passed (beginNodeTests (getD (k .nodes) (s .args .id) blankNode)) _ (c .before .before .before .before .before .check-begin .ensures) (c .before .before .before .enum-told .given .1) in
-    let g = c .before .target-table .result in
-    let b = target-held k z (v .result) (v .ensures) t (s .args .id) g (c .before .target-table .ensures) (q .0) (q .1 .1 .0) in
-    sym (ap outcome (refused-by k z (v .result) (v .ensures) t (Command.begin (s .args .id)) Error.MissingDependency (node-past k z (v .result) (v .ensures) t (s .args .id) beginNodeTests _ _ (c .before .before .before .before .before .check-begin .ensures) (c .before .before .before .enum-told .given .1) ∙ stop _ _ _ (target-missing k z (v .result) (v .ensures) t (s .args .id) g b ∙ c .if3 .taken))))
-
-sub-if4 : tie.Need-sub-if4 Inv-loop μ-loop
-sub-if4 c =
-    let s = c .before .before .before .before .before .before .before .before .before .before .before in
-    let k = s .args .self in
-    let z = sized k (s .good .0, tt) in
-    let v = c .before .before .before .before .before .before .before .before .before .before .sound in
-    let t = c .before .before .before .before .before .before .before .before .before .if1 .left in
-    omega (arith, links-within k z (v .result) (v .ensures) t)
+returns-4 c = let f = c .before in refuses (e f) (rest (P (checked f)) _ ∙ stop _ _ _ (target-missing (H f) ∙ c .if3 .taken))
 
 returns-5 : tie.Need-returns-5 Inv-loop μ-loop
 returns-5 c =
-    let s = c .before .before .before .before .before .before .before .before .before .before .before .before in
-    let k = s .args .self in
-    let z = sized k (s .good .0, tt) in
-    let v = c .before .before .before .before .before .before .before .before .before .before .before .sound in
-    let t = c .before .before .before .before .before .before .before .before .before .before .if1 .left in
-    let q = done-passed (beginNodeTests (getD (k .nodes) (s .args .id) blankNode)) _ (c .before .before .before .before .before .before .check-begin .ensures) (c .before .before .before .before .enum-told .given .1) in
-    let g = c .before .before .target-table .result in
-    let b = target-held k z (v .result) (v .ensures) t (s .args .id) g (c .before .before .target-table .ensures) (q .0) (q .1 .1 .0) in
-    sym (ap outcome (refused-by k z (v .result) (v .ensures) t (Command.begin (s .args .id)) Error.Capacity (node-past k z (v .result) (v .ensures) t (s .args .id) beginNodeTests _ _ (c .before .before .before .before .before .before .check-begin .ensures) (c .before .before .before .before .enum-told .given .1) ∙ skip _ _ _ (target-missing k z (v .result) (v .ensures) t (s .args .id) g b ∙ c .before .if3 .left) ∙ stop _ _ _ (space-none k z (v .result) (v .ensures) t (s .args .id) g b (c .if4 .taken)))))
+    let f = c .before .before in
+    refuses (e f) (rest (P (checked f)) _ ∙ skip _ _ _ (target-missing (H f) ∙ c .before .if3 .left) ∙ stop _ _ _ (space-none (H f) (c .if4 .taken)))
 
 add-started-node : tie.Need-add-started-node Inv-loop μ-loop
 add-started-node c =
-    let s = c .before .before .before .before .before .before .before .before .before .before .before .before .before in
-    let k = s .args .self in
-    let z = sized k (s .good .0, tt) in
-    let v = c .before .before .before .before .before .before .before .before .before .before .before .before .sound in
-    let t = c .before .before .before .before .before .before .before .before .before .before .before .if1 .left in
-    let q = done-passed (beginNodeTests (getD (k .nodes) (s .args .id) blankNode)) _ (c .before .before .before .before .before .before .before .check-begin .ensures) (c .before .before .before .before .before .enum-told .given .1) in
-    let d : (getD (k .nodes) (s .args .id) blankNode) .generation ≡ 18446744073709551615 → ⊥ = eqb-false _ _ (q .1 .1 .1 .0) in
-    let g = c .struct-known .given in
+    let f = found (c .before) in
+    let d : node (e f) .generation ≡ 18446744073709551615 → ⊥ = eqb-false _ _ (can (checked f) .not-last) in
+    let n = c .struct-known .given in
     omega arith
-
-started-node-requires : tie.Need-started-node-requires Inv-loop μ-loop
-started-node-requires c κs = search needs
-
-mul-nodes : tie.Need-mul-nodes Inv-loop μ-loop
-mul-nodes c = search needs
-
-array-set-from-nodes : tie.Need-array-set-from-nodes Inv-loop μ-loop
-array-set-from-nodes c = search needs
 
 loop-holds : tie.Need-loop-holds Inv-loop μ-loop
+unfolding tablesOf
 loop-holds c =
-    let s = c .before .before .before .before .before .before .before .before .before .before .before .before .before .before .before in
-    let k = s .args .self in
-    let z = sized k (s .good .0, tt) in
-    let v = c .before .before .before .before .before .before .before .before .before .before .before .before .before .before .sound in
-    let t = c .before .before .before .before .before .before .before .before .before .before .before .before .before .if1 .left in
-    (omega arith, linked-start k z (v .result) (v .ensures) t (s .args .id) (c .before .before .before .before .before .target-table .result .bindings))
-
-mul-b : tie.Need-mul-b Inv-loop μ-loop
-mul-b c = search needs
-
-element-copy-out-b : tie.Need-element-copy-out-b Inv-loop μ-loop
-element-copy-out-b c =
-    let s = c .before .before .before .before .before .before .before .before .before .before .before .before .before .before .before .before .before in
-    let k = s .args .self in
-    let z = sized k (s .good .0, tt) in
-    let v = c .before .before .before .before .before .before .before .before .before .before .before .before .before .before .before .before .sound in
-    let t = c .before .before .before .before .before .before .before .before .before .before .before .before .before .before .before .if1 .left in
-    let q = done-passed (beginNodeTests (getD (k .nodes) (s .args .id) blankNode)) _ (c .before .before .before .before .before .before .before .before .before .before .before .check-begin .ensures) (c .before .before .before .before .before .before .before .before .before .enum-told .given .1) in
-    let g = c .before .before .before .before .before .before .before .target-table .result in
-    let b = target-held k z (v .result) (v .ensures) t (s .args .id) g (c .before .before .before .before .before .before .before .target-table .ensures) (q .0) (q .1 .1 .0) in
-    let m : g .count ≤ 256 = target-most k z (v .result) (v .ensures) t (s .args .id) g b in
-    omega arith
-
-live-link-requires : tie.Need-live-link-requires Inv-loop μ-loop
-live-link-requires c κs = search needs
-
-add-links : tie.Need-add-links Inv-loop μ-loop
-add-links c =
-    let s = c .before .before .before .before .before .before .before .before .before .before .before .before .before .before .before .before .before .before .before in
-    let k = s .args .self in
-    let z = sized k (s .good .0, tt) in
-    let v = c .before .before .before .before .before .before .before .before .before .before .before .before .before .before .before .before .before .before .sound in
-    let t = c .before .before .before .before .before .before .before .before .before .before .before .before .before .before .before .before .before .if1 .left in
-    let w : k .«link_count» ≤ 512 = links-within k z (v .result) (v .ensures) t in
-    omega arith
-
-mul-links : tie.Need-mul-links Inv-loop μ-loop
-mul-links c = search needs
-
-array-set-from-links : tie.Need-array-set-from-links Inv-loop μ-loop
-array-set-from-links c =
-    let s = c .before .before .before .before .before .before .before .before .before .before .before .before .before .before .before .before .before .before .before in
-    let k = s .args .self in
-    let z = sized k (s .good .0, tt) in
-    let v = c .before .before .before .before .before .before .before .before .before .before .before .before .before .before .before .before .before .before .sound in
-    let t = c .before .before .before .before .before .before .before .before .before .before .before .before .before .before .before .before .before .if1 .left in
-    let w : k .«link_count» ≤ 512 = links-within k z (v .result) (v .ensures) t in
-    omega arith
-
-add-i : tie.Need-add-i Inv-loop μ-loop
-add-i c = omega arith
-
-loop-less : tie.Need-loop-less Inv-loop μ-loop
-loop-less c = omega arith
+    let d = e (found (c .before .before .before)) in
+    (omega arith, sym (links-laid (K d)) ∙ ap (padded LINKS blankLink) (sym (append-nil (take (k d .«link_count») (k d .links)))))
 
 loop-again : tie.Need-loop-again Inv-loop μ-loop
 loop-again c =
-    let s = c .before .before .before .before .before .before .before .before .before .before .before .before .before .before .before .before .before .before .before in
-    let k = s .args .self in
-    let z = sized k (s .good .0, tt) in
-    let v = c .before .before .before .before .before .before .before .before .before .before .before .before .before .before .before .before .before .before .sound in
-    let t = c .before .before .before .before .before .before .before .before .before .before .before .before .before .before .before .before .before .if1 .left in
-    let q = done-passed (beginNodeTests (getD (k .nodes) (s .args .id) blankNode)) _ (c .before .before .before .before .before .before .before .before .before .before .before .before .before .check-begin .ensures) (c .before .before .before .before .before .before .before .before .before .before .before .enum-told .given .1) in
-    let g = c .before .before .before .before .before .before .before .before .before .target-table .result in
-    let b = target-held k z (v .result) (v .ensures) t (s .args .id) g (c .before .before .before .before .before .before .before .before .before .target-table .ensures) (q .0) (q .1 .1 .0) in
-    let j = c .before .before .before .loop in
-    let w : k .«link_count» ≤ 512 = links-within k z (v .result) (v .ensures) t in
-    let m : g .count ≤ 256 = target-most k z (v .result) (v .ensures) t (s .args .id) g b in
-    let full : length (g .bindings) ≡ 256 = target-full k z (v .result) (v .ensures) t (s .args .id) g b in
-    let next = linked-next (k .links) (j .links) (s .args .id) (k .«link_count») (j .i) (g .bindings) (z .links) (omega arith) (omega arith) (j .inv .1) in
+    let j = turn c .loop in
+    let f = found (roomy (turn c)) in
+    let ls = take (k (e f) .«link_count») (k (e f) .links) in
+    let w = within (turn c) in
+    let m = target-most (H f) in
+    let full = target-width (H f) in
+    let z = K (e f) .sized .links in
+    let n : length ls ≡ k (e f) .«link_count» = length-take-le _ (k (e f) .links) (omega arith) in
+    let next = appended-next (liveLink (id (e f))) LINKS (k (e f) .«link_count») (j .i) blankLink (j .links) ls (r f .bindings) blankBinding n (omega arith) (omega arith) (j .inv .1) in
     (omega arith, rw (c .live-link .ensures) next)
-
-add-self : tie.Need-add-self Inv-loop μ-loop
-add-self c =
-    let s = c .before .before .before .before .before .before .before .before .before .before .before .before .before .before .before .before .before in
-    let k = s .args .self in
-    let z = sized k (s .good .0, tt) in
-    let v = c .before .before .before .before .before .before .before .before .before .before .before .before .before .before .before .before .sound in
-    let t = c .before .before .before .before .before .before .before .before .before .before .before .before .before .before .before .if1 .left in
-    let w : k .«link_count» ≤ 512 = links-within k z (v .result) (v .ensures) t in
-    omega arith
 
 returns-6 : tie.Need-returns-6 Inv-loop μ-loop
 returns-6 c =
-    let s = c .before .before .before .before .before .before .before .before .before .before .before .before .before .before .before .before .before in
-    let k = s .args .self in
-    let z = sized k (s .good .0, tt) in
-    let v = c .before .before .before .before .before .before .before .before .before .before .before .before .before .before .before .before .sound in
-    let t = c .before .before .before .before .before .before .before .before .before .before .before .before .before .before .before .if1 .left in
-    let p = node-passed k z (v .result) (v .ensures) t (s .args .id) beginNodeTests _ (c .before .before .before .before .before .before .before .before .before .before .before .check-begin .ensures) (c .before .before .before .before .before .before .before .before .before .enum-told .given .1) in
-    let q = done-passed (beginNodeTests (getD (k .nodes) (s .args .id) blankNode)) _ (c .before .before .before .before .before .before .before .before .before .before .before .check-begin .ensures) (c .before .before .before .before .before .before .before .before .before .enum-told .given .1) in
-    let g = c .before .before .before .before .before .before .before .target-table .result in
-    let b = target-held k z (v .result) (v .ensures) t (s .args .id) g (c .before .before .before .before .before .before .before .target-table .ensures) (q .0) (q .1 .1 .0) in
     let j = c .before .loop in
-    let i : j .i ≡ g .count = omega arith in
-    let laid = begun-laid k z (v .result) (v .ensures) t (s .args .id) g b (c .before .before .before .started-node .result) (c .before .before .before .started-node .ensures ∙ rw (add-one ((getD (k .nodes) (s .args .id) blankNode) .generation))) (q .0) (j .links) (j .i) i (j .inv .1) in
-    ap (λ (x : Kernel). record { kernel = x; answer = Answer.Done }) laid ∙ sym (ap outcome (accepted-by k z (v .result) (v .ensures) t (Command.begin (s .args .id)) (p .0, (p .1 .0, (p .1 .1 .0, (p .1 .1 .1 .0, (target-missing k z (v .result) (v .ensures) t (s .args .id) g b ∙ c .before .before .before .before .before .before .if3 .left, (space-some k z (v .result) (v .ensures) t (s .args .id) g b (c .before .before .before .before .before .if4 .left), tt))))))))
+    let g = roomy (c .before) in
+    let f = found g in
+    let v = c .before .before .before .started-node in
+    let i : j .i ≡ r f .count = omega arith in
+    let row = rest (P (checked f)) _ ∙ skip _ _ _ (target-missing (H f) ∙ g .before .if3 .left) ∙ skip _ _ _ (space-some (H f) (g .if4 .left)) ∙ of-passed [] tt in
+    hands-accepted (K (e f)) (Command.begin (id (e f))) row _ (begun-laid (H f) (v .ensures ∙ rw (add-one (node (e f) .generation))) (is-present (P (checked f))) (rw i at (j .inv .1)))
 
 pub begin-spec : {M : Type 1} → statement M
 begin-spec =
@@ -233,32 +145,32 @@ begin-spec =
     (tie.spec
     Inv-loop
     μ-loop
-    sound-requires
+    (λ c κs. search needs)  -- sound-requires
     returns
     returns-2
-    mul-node
-    array-copy-out-node
-    check-begin-requires
-    enum-known-checked
+    (λ c. search needs)  -- mul-node
+    (λ c. search needs)  -- array-copy-out-node
+    (λ c κs. search needs)  -- check-begin-requires
+    (λ c. search needs)  -- enum-known-checked
     returns-3
-    enum-told
-    target-table-requires
+    (λ c. search needs)  -- enum-told
+    (λ c κs. search needs)  -- target-table-requires
     returns-4
-    sub-if4
+    (λ c. omega (arith, laid (K (e (c .before))) .links))  -- sub-if4
     returns-5
     add-started-node
-    started-node-requires
-    mul-nodes
-    array-set-from-nodes
+    (λ c κs. search needs)  -- started-node-requires
+    (λ c. search needs)  -- mul-nodes
+    (λ c. search needs)  -- array-set-from-nodes
     loop-holds
-    mul-b
-    element-copy-out-b
-    live-link-requires
-    add-links
-    mul-links
-    array-set-from-links
-    add-i
-    loop-less
+    (λ c. search needs)  -- mul-b
+    (λ c. omega (arith, target-most (H (found (roomy (c .before))))))  -- element-copy-out-b
+    (λ c κs. search needs)  -- live-link-requires
+    (λ c. omega (arith, within (turn c)))  -- add-links
+    (λ c. search needs)  -- mul-links
+    (λ c. omega (arith, within (turn c)))  -- array-set-from-links
+    (λ c. omega arith)  -- add-i
+    (λ c. omega arith)  -- loop-less
     loop-again
-    add-self
+    (λ c. omega (arith, within (c .before)))  -- add-self
     returns-6)

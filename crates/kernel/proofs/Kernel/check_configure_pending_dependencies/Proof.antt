@@ -1,130 +1,111 @@
 -- `kernel::Kernel::check_configure_pending_dependencies` meets its contract.
-use mathlib.Core.Bool.{not}
-use mathlib.Core.Path.{_∙_, ap, sym}
-use Prim.Native.Nat.{_≤_}
-use native.Mathlib.Omega.{arith}
-use lib.Dec.{ltb}
-use borrow.Author.Needs.{needs}
-use borrow.Author.Tests.{le-ltb, lt-ltb}
-use Rattle.model.specs.declared.Error.{Error}
-use Rattle.kernel.proofs.Laws.Checked.{says-damaged, says-done, says-refused}
-use Rattle.kernel.proofs.Laws.Commanded.{node-passed, node-past, node-refused, past-unknown}
-use Rattle.kernel.proofs.Laws.Declared.{declarations-fit, list-sized, sum-is}
-use Rattle.kernel.proofs.Laws.Sized.{sized}
-use Rattle.model.proofs.Laws.Refusals.{skip, stop}
-use Rattle.model.specs.Commands.{Command}
-use Rattle.model.specs.Interface.{configureNodeTests}
-use Rattle.kernel.proofs.Kernel.check_configure_pending_dependencies.Statement.{statement}
+use mathlib.Core.{Bool.Bool, Bool.false, Bool.not, Bool.true, List.[], List._++_, List._∷_, Path._∙_, Path._≡_, Path.ap, Path.sym}
+use Prim.Native.{Nat._+_}
+use native.Mathlib.{Omega.arith}
+use lib.{Dec.ltb, ListN.length}
+use borrow.{Author.Needs.needs, Author.Tests.le-ltb, Author.Tests.lt-ltb, Author.Tests.not-true}
+use Rattle.kernel.specs.{Fields.layoutOf, Outcomes.answerOf, declared.component.Entry.Entry}
+use Rattle.model.specs.{Interface.configureTests, Interface.listed, Interface.tooLong, Layouts.tablesOf, Refusals.Tests, Refusals.first, Rows.nodeTests, Tables.Tables, Tables.nodeAt, declared.Error.Error, declared.checks.Row.Row}
+use Rattle.kernel.proofs.{Kernel.check_configure_pending_dependencies.Statement.statement, Laws.Sized.list-sized, Laws.Sized.sized}
+use Rattle.layouts.specs.{Rows.ofNode}
+use Rattle.layouts.proofs.{Laws.Declarations.Short, Laws.Declarations.length-listed, Laws.Nodes.Tested, Laws.Nodes.node-row, Laws.Nodes.rest, Laws.Nodes.tested, Laws.Rows.refuses-first, Laws.Rows.row-damaged, Laws.Rows.row-passes, Laws.Rows.row-refuses, Laws.Sound.SoundKernel, Laws.Sound.declaration-count-is, Laws.Sound.laid, Laws.Sound.tested-sound}
+use Rattle.model.proofs.{Laws.Refusals.of-passed, Laws.Refusals.skip, Laws.Refusals.stop}
+use Rattle.sizes.specs.{Sizes.DECLARATIONS, Sizes.sizes}
 use Rattle.kernel.proofs.Kernel.check_configure_pending_dependencies.Tie as tie
 
-sound-requires : tie.Need-sound-requires
-sound-requires c κs = search needs
+-- the whole row
+abbrev row : tie.Start → Tables → Tests
+row s T = configureTests sizes T (s .args .id) (s .args .list)
+
+-- past the entry test
+module _ (e : tie.Else1) where
+  abbrev a : tie.After-entry
+  a = e .before .before
+
+  abbrev s : tie.Start
+  s = a .before
+
+  K : SoundKernel sizes (layoutOf (s .args .self))
+  K = tested-sound (sized (s .args .self) (s .good .0, tt)) (ap (λ (x : Entry). x .sound) (a .entry .ensures)) (e .if1 .left)
+
+-- the node's tests answered
+module _ (f : tie.After-check) where
+  abbrev short : tie.Else2
+  short = f .before .before
+
+  abbrev at : tie.Start
+  at = s (short .before)
+
+  small : tooLong (at .args .list) ≡ false
+  small = le-ltb _ _ (short .if2 .left)
+
+  -- as the row has them
+  answered : f .check .result ≡ answerOf (at .args .self) (ofNode (nodeTests Row.Configure) (at .args .id))
+  answered = node-row (K (short .before)) (nodeTests Row.Configure) (at .args .id) (ap (λ (x : Entry). x .node) (a (short .before) .entry .ensures)) (f .check .ensures)
+
+-- and passed
+module _ (d : tie.After-enum-told) where
+  abbrev checked : tie.After-check
+  checked = d .before .before
+
+  P : Tested sizes (layoutOf (at checked .args .self)) Row.Configure (at checked .args .id)
+  P = tested (sized (at checked .args .self) (at checked .good .0, tt)) Row.Configure (at checked .args .id) (answered checked) (d .enum-told .given .1)
+
+  abbrev T : Tables
+  T = tablesOf (layoutOf (at checked .args .self))
+
+  left : (us : Tests) → first ((tooLong (at checked .args .list), Error.Capacity) ∷ (nodeTests Row.Configure (nodeAt (T .nodes) (at checked .args .id)) ++ us)) ≡ first us
+  left us = skip _ _ _ (small checked) ∙ rest P us
+
+  sum : length (listed (at checked .args .list)) + length (T .declarations) ≡ at checked .args .list .count + at checked .args .self .«declaration_count»
+  sum =
+      let h : Short (at checked .args .list) = record { array = list-sized (at checked .args .list) (at checked .good .1 .1 .0, tt); within = short checked .if2 .left } in
+      rw (length-listed h, declaration-count-is (P .kernel))
+
+  space :
+      (b : Bool) → ltb DECLARATIONS (at checked .args .list .count + at checked .args .self .«declaration_count») ≡ b →
+      ltb DECLARATIONS (length (listed (at checked .args .list)) + length (T .declarations)) ≡ b
+  space b h = ap (ltb DECLARATIONS) sum ∙ h
 
 returns : tie.Need-returns
-returns c =
-    let a = c .before .before .args in
-    says-damaged (a .self) (Command.configurePendingDependencies (a .id) (a .list)) (c .before .sound .result) (c .before .sound .ensures) (c .if1 .taken)
+returns c = let a = c .before .before in row-damaged sizes (layoutOf (a .before .args .self)) (row (a .before)) (sym (ap (λ (x : Entry). x .sound) (a .entry .ensures)) ∙ not-true _ (c .if1 .taken))
 
 returns-2 : tie.Need-returns-2
-returns-2 c =
-    let s = c .before .before .before in
-    let k = s .args .self in
-    let z = sized k (s .good .0, tt) in
-    let v = c .before .before .sound in
-    let t = c .before .if1 .left in
-    says-refused k z (v .result) (v .ensures) t (Command.configurePendingDependencies (s .args .id) (s .args .list)) Error.Capacity (stop _ _ _ (lt-ltb 32 ((s .args .list) .count) (c .if2 .taken)))
+returns-2 c = let e = c .before in row-refuses (K e) (row (s e)) (stop _ _ _ (lt-ltb _ _ (c .if2 .taken)))
 
 returns-3 : tie.Need-returns-3
 returns-3 c =
-    let s = c .before .before .before .before in
-    let k = s .args .self in
-    let z = sized k (s .good .0, tt) in
-    let v = c .before .before .before .sound in
-    let t = c .before .before .if1 .left in
-    says-refused k z (v .result) (v .ensures) t (Command.configurePendingDependencies (s .args .id) (s .args .list)) Error.Unknown (skip _ _ _ (le-ltb 32 ((s .args .list) .count) (c .before .if2 .left)) ∙ past-unknown k z (v .result) (v .ensures) t (s .args .id) _ (c .if3 .taken))
-
-mul-node : tie.Need-mul-node
-mul-node c = search needs
-
-array-copy-out-node : tie.Need-array-copy-out-node
-array-copy-out-node c = search needs
-
-check-configure-requires : tie.Need-check-configure-requires
-check-configure-requires c κs = search needs
-
-enum-known-checked : tie.Need-enum-known-checked
-enum-known-checked c = search needs
+    let f = c .before .before .before in
+    row-refuses (K (short f .before)) (row (at f)) (skip _ _ _ (small f) ∙ refuses-first (K (short f .before)) (ofNode (nodeTests Row.Configure) (at f .args .id)) _ (answered f) (c .before .checked .given .1))
 
 returns-4 : tie.Need-returns-4
-returns-4 c =
-    let s = c .before .before .before .before .before .before .before .before .before .before in
-    let k = s .args .self in
-    let z = sized k (s .good .0, tt) in
-    let v = c .before .before .before .before .before .before .before .before .before .sound in
-    let t = c .before .before .before .before .before .before .before .before .if1 .left in
-    says-refused k z (v .result) (v .ensures) t (Command.configurePendingDependencies (s .args .id) (s .args .list)) _ (skip _ _ _ (le-ltb 32 ((s .args .list) .count) (c .before .before .before .before .before .before .before .if2 .left)) ∙ node-refused k z (v .result) (v .ensures) t (s .args .id) configureNodeTests _ _ _ (c .before .before .before .check-configure .ensures) (c .before .checked .given .1))
-
-enum-told : tie.Need-enum-told
-enum-told c = search needs
-
-add-if4 : tie.Need-add-if4
-add-if4 c =
-    let s = c .before .before .before .before .before .before .before .before .before in
-    let k = s .args .self in
-    let z = sized k (s .good .0, tt) in
-    let v = c .before .before .before .before .before .before .before .before .sound in
-    let t = c .before .before .before .before .before .before .before .if1 .left in
-    let fit : k .«declaration_count» ≤ 256 = declarations-fit k z (v .result) (v .ensures) t in
-    let few : (s .args .list) .count ≤ 32 = c .before .before .before .before .before .before .if2 .left in
-    omega arith
+returns-4 c = let d = c .before in row-refuses (P d .kernel) (row (at (checked d))) (left d _ ∙ stop _ _ _ (space d true (lt-ltb _ _ (c .if3 .taken))))
 
 returns-5 : tie.Need-returns-5
 returns-5 c =
-    let s = c .before .before .before .before .before .before .before .before .before .before in
-    let k = s .args .self in
-    let z = sized k (s .good .0, tt) in
-    let v = c .before .before .before .before .before .before .before .before .before .sound in
-    let t = c .before .before .before .before .before .before .before .before .if1 .left in
-    says-refused k z (v .result) (v .ensures) t (Command.configurePendingDependencies (s .args .id) (s .args .list)) Error.Capacity (skip _ _ _ (le-ltb 32 ((s .args .list) .count) (c .before .before .before .before .before .before .before .if2 .left)) ∙ node-past k z (v .result) (v .ensures) t (s .args .id) configureNodeTests _ _ (c .before .before .before .check-configure .ensures) (c .before .enum-told .given .1) ∙ stop _ _ _ (ap (ltb 256) (sum-is k z (v .result) (v .ensures) t (s .args .list) (list-sized (s .args .list) (s .good .1 .1 .0, tt)) (c .before .before .before .before .before .before .before .if2 .left)) ∙ lt-ltb _ _ (c .if4 .taken)))
-
-distinct-ports-requires : tie.Need-distinct-ports-requires
-distinct-ports-requires c κs = search needs
+    let d = c .before .before .before in
+    let fits = space d false (le-ltb _ _ (c .before .before .if3 .left)) in
+    row-refuses (P d .kernel) (row (at (checked d))) (left d _ ∙ skip _ _ _ fits ∙ stop _ _ _ (ap not (sym (c .before .distinct-ports .ensures)) ∙ c .if4 .taken))
 
 returns-6 : tie.Need-returns-6
 returns-6 c =
-    let s = c .before .before .before .before .before .before .before .before .before .before .before .before in
-    let k = s .args .self in
-    let z = sized k (s .good .0, tt) in
-    let v = c .before .before .before .before .before .before .before .before .before .before .before .sound in
-    let t = c .before .before .before .before .before .before .before .before .before .before .if1 .left in
-    says-refused k z (v .result) (v .ensures) t (Command.configurePendingDependencies (s .args .id) (s .args .list)) Error.Conflict (skip _ _ _ (le-ltb 32 ((s .args .list) .count) (c .before .before .before .before .before .before .before .before .before .if2 .left)) ∙ node-past k z (v .result) (v .ensures) t (s .args .id) configureNodeTests _ _ (c .before .before .before .before .before .check-configure .ensures) (c .before .before .before .enum-told .given .1) ∙ skip _ _ _ (ap (ltb 256) (sum-is k z (v .result) (v .ensures) t (s .args .list) (list-sized (s .args .list) (s .good .1 .1 .0, tt)) (c .before .before .before .before .before .before .before .before .before .if2 .left)) ∙ le-ltb _ _ (c .before .before .if4 .left)) ∙ stop _ _ _ (ap not (sym (c .before .distinct-ports .ensures)) ∙ c .if5 .taken))
-
-returns-7 : tie.Need-returns-7
-returns-7 c =
-    let s = c .before .before .before .before .before .before .before .before .before .before .before .before in
-    let k = s .args .self in
-    let z = sized k (s .good .0, tt) in
-    let v = c .before .before .before .before .before .before .before .before .before .before .before .sound in
-    let t = c .before .before .before .before .before .before .before .before .before .before .if1 .left in
-    let p = node-passed k z (v .result) (v .ensures) t (s .args .id) configureNodeTests _ (c .before .before .before .before .before .check-configure .ensures) (c .before .before .before .enum-told .given .1) in
-    says-done k z (v .result) (v .ensures) t (Command.configurePendingDependencies (s .args .id) (s .args .list)) (le-ltb 32 ((s .args .list) .count) (c .before .before .before .before .before .before .before .before .before .if2 .left), (p .0, (p .1 .0, (p .1 .1 .0, (ap (ltb 256) (sum-is k z (v .result) (v .ensures) t (s .args .list) (list-sized (s .args .list) (s .good .1 .1 .0, tt)) (c .before .before .before .before .before .before .before .before .before .if2 .left)) ∙ le-ltb _ _ (c .before .before .if4 .left), (ap not (sym (c .before .distinct-ports .ensures)) ∙ c .if5 .left, tt))))))
+    let d = c .before .before .before in
+    let fits = space d false (le-ltb _ _ (c .before .before .if3 .left)) in
+    row-passes (P d .kernel) (row (at (checked d))) (left d _ ∙ skip _ _ _ fits ∙ skip _ _ _ (ap not (sym (c .before .distinct-ports .ensures)) ∙ c .if4 .left) ∙ of-passed [] tt)
 
 pub check-configure-pending-dependencies-spec : {M : Type 1} → statement M
 check-configure-pending-dependencies-spec =
     tie.close
     (tie.spec
-    sound-requires
+    (λ c κs. search needs)  -- entry-requires
     returns
     returns-2
+    (λ c κs. search needs)  -- check-requires
+    (λ c. search needs)  -- enum-known-checked
     returns-3
-    mul-node
-    array-copy-out-node
-    check-configure-requires
-    enum-known-checked
+    (λ c. search needs)  -- enum-told
+    (λ c. omega (arith, laid (P c .kernel) .declarations))  -- add-if3
     returns-4
-    enum-told
-    add-if4
+    (λ c κs. search needs)  -- distinct-ports-requires
     returns-5
-    distinct-ports-requires
-    returns-6
-    returns-7)
+    returns-6)

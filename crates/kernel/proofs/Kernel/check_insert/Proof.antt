@@ -1,190 +1,153 @@
--- `kernel::Kernel::check_insert` meets its contract: each return is the first test of the row that applies, or that none does.
-use mathlib.Core.Path.{_∙_, _≡_, ap, sym}
-use mathlib.Core.Bool.{_||_, false, not, true}
-use mathlib.Core.Logic.{⊎-elim}
-use native.Mathlib.Omega.{arith}
-use lib.Dec.{ltb}
-use borrow.Author.Needs.{needs}
-use borrow.Author.Tests.{le-ltb, lt-ltb, not-false, not-true}
-use Rattle.model.specs.declared.Error.{Error}
-use Rattle.scans.specs.declared.NodeFlags.{NodeFlags}
-use Rattle.kernel.proofs.Laws.Inserted.{check-done, check-refused, clashes-are, declared-count, dependencies-sized, no-parent, nodes-free, nodes-full, parent-flagged, provisions-sized, short-dependencies, short-provisions}
-use Rattle.kernel.proofs.Laws.Observed.{ask-unsound, is-sound}
-use Rattle.kernel.proofs.Laws.Sized.{sized}
-use Rattle.kernel.specs.Fields.{layoutOf}
-use Rattle.model.proofs.Laws.Refusals.{skip, stop}
-use Rattle.model.proofs.Theorems.Layouts.{laid-of}
-use Rattle.model.specs.Answers.{answer}
-use Rattle.model.specs.Insertion.{checkInsert, parentPresent}
-use Rattle.model.specs.Interface.{tooLong}
-use Rattle.model.specs.Layouts.{tablesOf}
-use Rattle.model.specs.Refusals.{Reply}
-use Rattle.model.specs.Sizes.{controller}
-use Rattle.kernel.proofs.Kernel.check_insert.Statement.{statement}
+-- `kernel::Kernel::check_insert` meets its contract.
+use mathlib.Core.{Bool.Bool, Bool._&&_, Bool._||_, Bool.not, Bool.true, List.[], List._∷_, List.map, Logic.⊎-elim, Option.some, Path._∙_, Path._≡_, Path.ap, Path.sym}
+use Prim.Native.{Nat._+_, Nat._≤_}
+use native.Mathlib.{Omega.arith}
+use lib.{Dec.leb, Dec.ltb, ListN.length}
+use borrow.{Author.Needs.needs, Author.Tests.le-leb, Author.Tests.le-ltb, Author.Tests.lt-leb, Author.Tests.lt-ltb, Author.Tests.not-false, Author.Tests.not-true}
+use Rattle.layouts.proofs.{Laws.Declarations.Short, Laws.Declarations.both-short, Laws.Declarations.clashes-are, Laws.Declarations.declared-count, Laws.Declarations.no-parent, Laws.Declarations.parent-is, Laws.Rows.row-damaged, Laws.Rows.row-passes, Laws.Rows.row-refuses, Laws.Sound.SoundKernel, Laws.Sound.laid, Laws.Sound.node-count-is, Laws.Sound.tested-sound}
+use Rattle.model.specs.{Sizes.listLimit, Answers.answer, Insertion.checkInsert, Insertion.clashes, Insertion.insertTests, Insertion.parentPresent, Interface.listed, Interface.tooLong, Layouts.tablesOf, Refusals.Reply, Refusals.Tests, Refusals.first, Tables.Tables, declared.Answer.Answer, declared.Error.Error, declared.records.Node.Node}
+use Rattle.scans.specs.{declared.NodeFlags.NodeFlags}
+use Rattle.kernel.proofs.{Kernel.check_insert.Statement.statement, Laws.Rows.insertion-row, Laws.Sized.list-sized, Laws.Sized.sized}
+use Rattle.kernel.specs.{Fields.ask, Fields.layoutOf, Outcomes.answerOf}
+use Rattle.model.proofs.{Laws.Refusals.of-passed, Laws.Refusals.skip, Laws.Refusals.stop}
+use Rattle.sizes.specs.{Sizes.DECLARATIONS, Sizes.IDENTITIES, Sizes.sizes}
 use Rattle.kernel.proofs.Kernel.check_insert.Tie as tie
 
-tables-sound-requires : tie.Need-tables-sound-requires
-tables-sound-requires c κs = search needs
+-- the whole row
+abbrev row : tie.Start → Tables → Tests
+row s T = insertTests sizes T (s .args .parent) (s .args .dependencies) (s .args .provisions)
+
+-- what is to be answered
+abbrev wanted : tie.Start → Answer
+wanted s = answer (ask (s .args .self) (Reply.refused Error.Damaged) (λ T. checkInsert sizes T (s .args .parent) (s .args .dependencies) (s .args .provisions)))
+
+as-row : (s : tie.Start) → wanted s ≡ answerOf (s .args .self) (row s)
+as-row s = insertion-row (s .args .self) (s .args .parent) (s .args .dependencies) (s .args .provisions)
+
+-- past the entry test
+module _ (e : tie.Else1) where
+  abbrev s : tie.Start
+  s = e .before .before .before .before .before
+
+  abbrev T : Tables
+  T = tablesOf (layoutOf (s .args .self))
+
+  K : SoundKernel sizes (layoutOf (s .args .self))
+  K = tested-sound (sized (s .args .self) (s .good .0, tt)) (e .before .tables-sound .ensures) (e .if1 .left)
+
+  refuses : {x : Error} → first (row s T) ≡ some x → Answer.Refused x ≡ wanted s
+  refuses h = row-refuses K (row s) h ∙ sym (as-row s)
+
+  full : {b : Bool} → leb IDENTITIES (s .args .self .«node_count») ≡ b → leb IDENTITIES (length (T .nodes)) ≡ b
+  full h = ap (leb IDENTITIES) (node-count-is K) ∙ h
+
+-- past the tests of the lists and of the identities
+module _ (r : tie.Else3) where
+  abbrev e : tie.Else1
+  e = r .before .before
+
+  short : Short (s e .args .dependencies) × Short (s e .args .provisions)
+  short = both-short (list-sized (s e .args .dependencies) (s e .good .1 .1 .0, tt)) (list-sized (s e .args .provisions) (s e .good .1 .1 .1 .0, tt)) (r .before .if2 .left)
+
+  to-parent : (us : Tests) → first ((tooLong (s e .args .dependencies) || tooLong (s e .args .provisions), Error.Capacity) ∷ (leb IDENTITIES (length (T e .nodes)), Error.Capacity) ∷ us) ≡ first us
+  to-parent us = skip _ _ _ (r .before .if2 .left) ∙ skip _ _ _ (full e (lt-leb _ _ (r .if3 .left)))
+
+  sum :
+      {b : Bool} → ltb DECLARATIONS (s e .args .self .«declaration_count» + s e .args .dependencies .count + s e .args .provisions .count) ≡ b →
+      ltb DECLARATIONS (length (T e .declarations) + length (listed (s e .args .dependencies)) + length (listed (s e .args .provisions))) ≡ b
+  sum h = ap (ltb DECLARATIONS) (declared-count (K e) short) ∙ h
+
+-- who is present
+module _ (p : tie.After-present) where
+  abbrev f : tie.After-node-flags
+  f = p .before
+
+  abbrev at : tie.Else3
+  at = f .before
+
+  flagged : f .node-flags .result .present ≡ map (λ (n : Node). n .present) (s (e at) .args .self .nodes)
+  flagged = ap (λ (x : NodeFlags). x .present) (f .node-flags .ensures)
+
+-- past the parent's test
+module _ (m : tie.At-match-came) where
+  abbrev here : tie.Else3
+  here = at (m .before)
+
+  parent : parentPresent (T (e here)) (s (e here) .args .parent) ≡ true
+  parent = ⊎-elim (λ w. parent-is (K (e here)) (flagged (m .before)) (w .1 .given .1) (sym (not-false _ (w .5 .left)) ∙ w .4 .ensures)) (λ w. no-parent (T (e here)) (w .1 .given .1)) (m .match .came)
+
+  abbrev tests : Tests → Tests
+  tests us =
+      let a = s (e here) .args in
+      (tooLong (a .dependencies) || tooLong (a .provisions), Error.Capacity) ∷ (leb IDENTITIES (length (T (e here) .nodes)), Error.Capacity) ∷ (not (parentPresent (T (e here)) (a .parent)), Error.Unknown) ∷ us
+
+  to-clash : (us : Tests) → first (tests us) ≡ first us
+  to-clash us = to-parent here _ ∙ skip _ _ _ (ap not parent)
+
+-- both lists scanned
+module _ (d : tie.After-distinct-ports) where
+  abbrev came : tie.At-match-came
+  came = d .before .before
+
+  abbrev q : tie.Else3
+  q = here came
+
+  clash : {b : Bool} → not (d .before .check-provisions .result && d .distinct-ports .result) ≡ b → clashes (T (e q)) (s (e q) .args .dependencies) (s (e q) .args .provisions) ≡ b
+  clash h = clashes-are (K (e q)) (flagged (came .before)) (s (e q) .args .dependencies) (s (e q) .args .provisions) (d .before .check-provisions .ensures) (d .distinct-ports .ensures) ∙ h
+
+  room : s (e q) .args .self .«declaration_count» + s (e q) .args .dependencies .count + s (e q) .args .provisions .count ≤ DECLARATIONS + (listLimit + listLimit)
+  room = let a = short q .0 .within in let b = short q .1 .within in let l = laid (K (e q)) .declarations in omega arith
 
 returns : tie.Need-returns
 returns c =
     let s = c .before .before .before .before .before in
-    let so = c .before .tables-sound in
-    sym (ap answer (ask-unsound (s .args .self) (so .result) (Reply.refused Error.Damaged) (λ T. checkInsert controller T (s .args .parent) (s .args .dependencies) (s .args .provisions)) (so .ensures) (c .if1 .taken)))
+    row-damaged sizes (layoutOf (s .args .self)) (row s) (sym (c .before .tables-sound .ensures) ∙ not-true _ (c .if1 .taken)) ∙ sym (as-row s)
 
 returns-2 : tie.Need-returns-2
-returns-2 c =
-    let s = c .before .before .before .before .before .before in
-    let so = c .before .before .tables-sound in
-    let k = s .args .self in
-    let ds = s .args .dependencies in
-    let ps = s .args .provisions in
-    let z = sized k (s .good .0, tt) in
-    let t = c .before .if1 .left in
-    sym (check-refused k z (so .result) (so .ensures) t (s .args .parent) ds ps Error.Capacity (stop _ _ _ (c .if2 .taken)))
+returns-2 c = refuses (c .before) (stop _ _ _ (c .if2 .taken))
 
 returns-3 : tie.Need-returns-3
-returns-3 c =
-    let s = c .before .before .before .before .before .before .before in
-    let so = c .before .before .before .tables-sound in
-    let k = s .args .self in
-    let ds = s .args .dependencies in
-    let ps = s .args .provisions in
-    let z = sized k (s .good .0, tt) in
-    let t = c .before .before .if1 .left in
-    let short : tooLong ds || tooLong ps ≡ false = c .before .if2 .left in
-    sym (check-refused k z (so .result) (so .ensures) t (s .args .parent) ds ps Error.Capacity (skip _ _ _ short ∙ stop _ _ _ (nodes-full k z (so .result) (so .ensures) t (c .if3 .taken))))
-
-node-flags-requires : tie.Need-node-flags-requires
-node-flags-requires c κs = search needs
-
-enum-known-parent : tie.Need-enum-known-parent
-enum-known-parent c = search needs
-
-flag-at-requires : tie.Need-flag-at-requires
-flag-at-requires c κs = search needs
+returns-3 c = refuses (c .before .before) (skip _ _ _ (c .before .if2 .left) ∙ stop _ _ _ (full (c .before .before) (le-leb _ _ (c .if3 .taken))))
 
 returns-4 : tie.Need-returns-4
 returns-4 c =
-    let s = c .before .before .before .before .before .before .before .before .before .before .before .before .before .before .before in
-    let so = c .before .before .before .before .before .before .before .before .before .before .before .tables-sound in
-    let k = s .args .self in
-    let ds = s .args .dependencies in
-    let ps = s .args .provisions in
-    let z = sized k (s .good .0, tt) in
-    let t = c .before .before .before .before .before .before .before .before .before .before .if1 .left in
-    let short : tooLong ds || tooLong ps ≡ false = c .before .before .before .before .before .before .before .before .before .if2 .left in
-    let free = nodes-free k z (so .result) (so .ensures) t (c .before .before .before .before .before .before .before .before .if3 .left) in
-    let flagged = ap (λ (x : NodeFlags). x .present) (c .before .before .before .before .before .before .before .node-flags .ensures) in
-    let absent : parentPresent (tablesOf (layoutOf k)) (s .args .parent) ≡ false = parent-flagged k z (so .result) (so .ensures) t (s .args .parent) _ _ false (c .before .before .before .before .parent .given .1) flagged (sym (not-true _ (c .if4 .taken)) ∙ c .before .flag-at .ensures) in
-    sym (check-refused k z (so .result) (so .ensures) t (s .args .parent) ds ps Error.Unknown (skip _ _ _ short ∙ skip _ _ _ free ∙ stop _ _ _ (ap not absent)))
-
-enum-told : tie.Need-enum-told
-enum-told c = search needs
-
-check-provisions-requires : tie.Need-check-provisions-requires
-check-provisions-requires c κs = search needs
-
-distinct-ports-requires : tie.Need-distinct-ports-requires
-distinct-ports-requires c κs = search needs
+    let t = c .before .before .before in
+    let p = t .before .before .before in
+    let r = at p in
+    let absent = parent-is (K (e r)) (flagged p) (t .before .parent .given .1) (sym (not-true _ (c .if4 .taken)) ∙ c .before .flag-at .ensures) in
+    refuses (e r) (to-parent r _ ∙ stop _ _ _ (ap not absent))
 
 returns-5 : tie.Need-returns-5
-returns-5 c =
-    let s = c .before .before .before .before .before .before .before .before .before .before .before .before .before in
-    let so = c .before .before .before .before .before .before .before .before .before .tables-sound in
-    let k = s .args .self in
-    let ds = s .args .dependencies in
-    let ps = s .args .provisions in
-    let z = sized k (s .good .0, tt) in
-    let t = c .before .before .before .before .before .before .before .before .if1 .left in
-    let short : tooLong ds || tooLong ps ≡ false = c .before .before .before .before .before .before .before .if2 .left in
-    let free = nodes-free k z (so .result) (so .ensures) t (c .before .before .before .before .before .before .if3 .left) in
-    let flagged = ap (λ (x : NodeFlags). x .present) (c .before .before .before .before .before .node-flags .ensures) in
-    let parent : parentPresent (tablesOf (layoutOf k)) (s .args .parent) ≡ true = ⊎-elim (λ w. parent-flagged k z (so .result) (so .ensures) t (s .args .parent) _ _ true (w .1 .given .1) flagged (sym (not-false _ (w .5 .left)) ∙ w .4 .ensures)) (λ w. no-parent (tablesOf (layoutOf k)) (s .args .parent) (w .1 .given .1)) (c .before .before .before .match .came) in
-    let conflict = clashes-are k z (so .result) (so .ensures) t ds ps _ _ _ flagged (c .before .before .check-provisions .ensures) (c .before .distinct-ports .ensures) in
-    sym (check-refused k z (so .result) (so .ensures) t (s .args .parent) ds ps Error.Conflict (skip _ _ _ short ∙ skip _ _ _ free ∙ skip _ _ _ (ap not parent) ∙ stop _ _ _ (conflict ∙ c .if5 .taken)))
-
-add-if6 : tie.Need-add-if6
-add-if6 c =
-    let s = c .before .before .before .before .before .before .before .before .before .before .before .before .before in
-    let so = c .before .before .before .before .before .before .before .before .before .tables-sound in
-    let k = s .args .self in
-    let ds = s .args .dependencies in
-    let ps = s .args .provisions in
-    let z = sized k (s .good .0, tt) in
-    let t = c .before .before .before .before .before .before .before .before .if1 .left in
-    let short : tooLong ds || tooLong ps ≡ false = c .before .before .before .before .before .before .before .if2 .left in
-    let few-d = short-dependencies ds ps short in
-    let few-p = short-provisions ds ps short in
-    let l = laid-of controller (layoutOf k) (is-sound k z (so .result) (so .ensures) t) in
-    omega (arith, few-d, few-p, l .declarations)
-
-add-if6-2 : tie.Need-add-if6-2
-add-if6-2 c =
-    let s = c .before .before .before .before .before .before .before .before .before .before .before .before .before in
-    let so = c .before .before .before .before .before .before .before .before .before .tables-sound in
-    let k = s .args .self in
-    let ds = s .args .dependencies in
-    let ps = s .args .provisions in
-    let z = sized k (s .good .0, tt) in
-    let t = c .before .before .before .before .before .before .before .before .if1 .left in
-    let short : tooLong ds || tooLong ps ≡ false = c .before .before .before .before .before .before .before .if2 .left in
-    let few-d = short-dependencies ds ps short in
-    let few-p = short-provisions ds ps short in
-    let l = laid-of controller (layoutOf k) (is-sound k z (so .result) (so .ensures) t) in
-    omega (arith, few-d, few-p, l .declarations)
+returns-5 c = let d = c .before in refuses (e (q d)) (to-clash (came d) _ ∙ stop _ _ _ (clash d (c .if5 .taken)))
 
 returns-6 : tie.Need-returns-6
 returns-6 c =
-    let s = c .before .before .before .before .before .before .before .before .before .before .before .before .before .before in
-    let so = c .before .before .before .before .before .before .before .before .before .before .tables-sound in
-    let k = s .args .self in
-    let ds = s .args .dependencies in
-    let ps = s .args .provisions in
-    let z = sized k (s .good .0, tt) in
-    let t = c .before .before .before .before .before .before .before .before .before .if1 .left in
-    let short : tooLong ds || tooLong ps ≡ false = c .before .before .before .before .before .before .before .before .if2 .left in
-    let free = nodes-free k z (so .result) (so .ensures) t (c .before .before .before .before .before .before .before .if3 .left) in
-    let flagged = ap (λ (x : NodeFlags). x .present) (c .before .before .before .before .before .before .node-flags .ensures) in
-    let parent : parentPresent (tablesOf (layoutOf k)) (s .args .parent) ≡ true = ⊎-elim (λ w. parent-flagged k z (so .result) (so .ensures) t (s .args .parent) _ _ true (w .1 .given .1) flagged (sym (not-false _ (w .5 .left)) ∙ w .4 .ensures)) (λ w. no-parent (tablesOf (layoutOf k)) (s .args .parent) (w .1 .given .1)) (c .before .before .before .before .match .came) in
-    let conflict = clashes-are k z (so .result) (so .ensures) t ds ps _ _ _ flagged (c .before .before .before .check-provisions .ensures) (c .before .before .distinct-ports .ensures) in
-    let sum = declared-count k z (so .result) (so .ensures) t ds ps (dependencies-sized k (s .args .parent) ds ps (s .good)) (provisions-sized k (s .args .parent) ds ps (s .good)) (short-dependencies ds ps short) (short-provisions ds ps short) in
-    sym (check-refused k z (so .result) (so .ensures) t (s .args .parent) ds ps Error.Capacity (skip _ _ _ short ∙ skip _ _ _ free ∙ skip _ _ _ (ap not parent) ∙ skip _ _ _ (conflict ∙ c .before .if5 .left) ∙ stop _ _ _ (ap (ltb 256) sum ∙ lt-ltb 256 _ (c .if6 .taken))))
+    let d = c .before .before in
+    refuses (e (q d)) (to-clash (came d) _ ∙ skip _ _ _ (clash d (c .before .if5 .left)) ∙ stop _ _ _ (sum (q d) (lt-ltb _ _ (c .if6 .taken))))
 
 returns-7 : tie.Need-returns-7
 returns-7 c =
-    let s = c .before .before .before .before .before .before .before .before .before .before .before .before .before .before in
-    let so = c .before .before .before .before .before .before .before .before .before .before .tables-sound in
-    let k = s .args .self in
-    let ds = s .args .dependencies in
-    let ps = s .args .provisions in
-    let z = sized k (s .good .0, tt) in
-    let t = c .before .before .before .before .before .before .before .before .before .if1 .left in
-    let short : tooLong ds || tooLong ps ≡ false = c .before .before .before .before .before .before .before .before .if2 .left in
-    let free = nodes-free k z (so .result) (so .ensures) t (c .before .before .before .before .before .before .before .if3 .left) in
-    let flagged = ap (λ (x : NodeFlags). x .present) (c .before .before .before .before .before .before .node-flags .ensures) in
-    let parent : parentPresent (tablesOf (layoutOf k)) (s .args .parent) ≡ true = ⊎-elim (λ w. parent-flagged k z (so .result) (so .ensures) t (s .args .parent) _ _ true (w .1 .given .1) flagged (sym (not-false _ (w .5 .left)) ∙ w .4 .ensures)) (λ w. no-parent (tablesOf (layoutOf k)) (s .args .parent) (w .1 .given .1)) (c .before .before .before .before .match .came) in
-    let conflict = clashes-are k z (so .result) (so .ensures) t ds ps _ _ _ flagged (c .before .before .before .check-provisions .ensures) (c .before .before .distinct-ports .ensures) in
-    let sum = declared-count k z (so .result) (so .ensures) t ds ps (dependencies-sized k (s .args .parent) ds ps (s .good)) (provisions-sized k (s .args .parent) ds ps (s .good)) (short-dependencies ds ps short) (short-provisions ds ps short) in
-    sym (check-done k z (so .result) (so .ensures) t (s .args .parent) ds ps (short, (free, (ap not parent, (conflict ∙ c .before .if5 .left, (ap (ltb 256) sum ∙ le-ltb 256 _ (c .if6 .left), tt))))))
+    let d = c .before .before in
+    let passed = to-clash (came d) _ ∙ skip _ _ _ (clash d (c .before .if5 .left)) ∙ skip _ _ _ (sum (q d) (le-ltb _ _ (c .if6 .left))) ∙ of-passed [] tt in
+    row-passes (K (e (q d))) (row (s (e (q d)))) passed ∙ sym (as-row (s (e (q d))))
 
 pub check-insert-spec : {M : Type 1} → statement M
 check-insert-spec =
     tie.close
     (tie.spec
-    tables-sound-requires
+    (λ c κs. search needs)  -- tables-sound-requires
     returns
     returns-2
     returns-3
-    node-flags-requires
-    enum-known-parent
-    flag-at-requires
+    (λ c κs. search needs)  -- node-flags-requires
+    (λ c. search needs)  -- enum-known-parent
+    (λ c κs. search needs)  -- flag-at-requires
     returns-4
-    enum-told
-    check-provisions-requires
-    distinct-ports-requires
+    (λ c. search needs)  -- enum-told
+    (λ c κs. search needs)  -- check-provisions-requires
+    (λ c κs. search needs)  -- distinct-ports-requires
     returns-5
-    add-if6
-    add-if6-2
+    (λ c. omega (arith, room (c .before)))  -- add-if6
+    (λ c. omega (arith, room (c .before)))  -- add-if6-2
     returns-6
     returns-7)

@@ -1,95 +1,91 @@
 -- `kernel::Kernel::check_leave_if_changed` meets its contract.
-use mathlib.Core.Path.{_∙_}
-use lib.ListN.{getD}
-use borrow.Author.Needs.{needs}
-use Rattle.model.specs.declared.Error.{Error}
-use Rattle.kernel.proofs.Laws.Checked.{says-damaged, says-done, says-refused}
-use Rattle.kernel.proofs.Laws.Commanded.{node-passed, node-past, node-refused, past-unknown}
-use Rattle.kernel.proofs.Laws.Sized.{sized}
-use Rattle.kernel.proofs.Laws.Target.{target-there}
-use Rattle.model.proofs.Laws.Refusals.{done-passed, stop}
-use Rattle.model.specs.Commands.{Command}
-use Rattle.model.specs.Lifecycle.{runningTests}
-use Rattle.model.specs.Records.{blankNode}
-use Rattle.kernel.proofs.Kernel.check_leave_if_changed.Statement.{statement}
+use mathlib.Core.{Bool._||_, Bool.not, List.[], Option.none, Option.some, Path._∙_, Path._≡_, Path.ap, Path.sym}
+use Prim.Native.{Nat.ℕ}
+use lib.{ListN.getD}
+use borrow.{Author.Needs.needs, Author.Tests.not-true}
+use Rattle.kernel.specs.{Fields.layoutOf, Outcomes.answerOf, declared.Kernel.Kernel}
+use Rattle.model.specs.{Layouts.tablesOf, Lifecycle.leaveIfChangedTests, Lists.isNone, Records.blankNode, Refusals.Tests, Refusals.first, Resolution.target, Tables.Tables, declared.Answer.Answer, declared.Error.Error, declared.checks.Row.Row}
+use Rattle.kernel.proofs.{Kernel.check_leave_if_changed.Statement.statement, Laws.Sized.sized, Laws.Targets.there-is}
+use Rattle.layouts.proofs.{Laws.Nodes.Tested, Laws.Nodes.array-present, Laws.Nodes.node-refuses, Laws.Nodes.past-unknown, Laws.Nodes.rest, Laws.Nodes.tested-array, Laws.Rows.row-damaged, Laws.Rows.row-passes, Laws.Rows.row-refuses, Laws.Sound.SoundKernel, Laws.Sound.tested-sound, Laws.Targets.found, Laws.Targets.target-gone}
+use Rattle.model.proofs.{Laws.Refusals.of-passed, Laws.Refusals.skip, Laws.Refusals.stop}
+use Rattle.sizes.specs.{Sizes.sizes}
 use Rattle.kernel.proofs.Kernel.check_leave_if_changed.Tie as tie
 
-sound-requires : tie.Need-sound-requires
-sound-requires c κs = search needs
+-- past the entry test
+module _ (e : tie.Else1) where
+  abbrev k : Kernel
+  k = e .before .before .args .self
+
+  abbrev id : ℕ
+  id = e .before .before .args .id
+
+  abbrev T : Tables
+  T = tablesOf (layoutOf k)
+
+  -- the whole row
+  abbrev row : Tables → Tests
+  row U = leaveIfChangedTests U id
+
+  K : SoundKernel sizes (layoutOf k)
+  K = tested-sound (sized k (e .before .before .good .0, tt)) (e .before .sound .ensures) (e .if1 .left)
+
+  refuses : {x : Error} → first (row T) ≡ some x → Answer.Refused x ≡ answerOf k row
+  refuses h = row-refuses K row h
+
+  passes : first (row T) ≡ none → Answer.Done ≡ answerOf k row
+  passes h = row-passes K row h
+
+-- the node's tests answered
+abbrev entered : tie.After-check-running → tie.Else1
+entered a = a .before .before .before .before
+
+-- the target looked up
+module _ (f : tie.After-target-table) where
+  abbrev told : tie.After-enum-told
+  told = f .before .before
+
+  abbrev at : tie.Else1
+  at = entered (told .before .before)
+
+  P : Tested sizes (layoutOf (k at)) Row.Running (id at)
+  P = tested-array (K at) (id at) Row.Running (told .before .before .check-running .ensures) (told .enum-told .given .1)
+
+  gone : isNone (target (T at) (id at)) ≡ (getD (k at .nodes) (id at) blankNode) .retired || not (f .target-table .result .there)
+  gone = target-gone (K at) (id at) (array-present P) (there-is _ (found sizes (layoutOf (k at)) (id at)) (f .target-table .ensures))
 
 returns : tie.Need-returns
-returns c = says-damaged (c .before .before .args .self) (Command.leaveIfChanged (c .before .before .args .id)) (c .before .sound .result) (c .before .sound .ensures) (c .if1 .taken)
+returns c =
+    let s = c .before .before in
+    row-damaged sizes (layoutOf (s .args .self)) (λ U. leaveIfChangedTests U (s .args .id)) (sym (c .before .sound .ensures) ∙ not-true _ (c .if1 .taken))
 
 returns-2 : tie.Need-returns-2
-returns-2 c =
-    let s = c .before .before .before in
-    let k = s .args .self in
-    let z = sized k (s .good .0, tt) in
-    let v = c .before .before .sound in
-    let t = c .before .if1 .left in
-    says-refused k z (v .result) (v .ensures) t (Command.leaveIfChanged (s .args .id)) Error.Unknown (past-unknown k z (v .result) (v .ensures) t (s .args .id) _ (c .if2 .taken))
-
-mul-node : tie.Need-mul-node
-mul-node c = search needs
-
-array-copy-out-node : tie.Need-array-copy-out-node
-array-copy-out-node c = search needs
-
-check-running-requires : tie.Need-check-running-requires
-check-running-requires c κs = search needs
-
-enum-known-checked : tie.Need-enum-known-checked
-enum-known-checked c = search needs
+returns-2 c = refuses (c .before) (past-unknown (K (c .before)) (id (c .before)) _ (c .if2 .taken))
 
 returns-3 : tie.Need-returns-3
 returns-3 c =
-    let s = c .before .before .before .before .before .before .before .before .before in
-    let k = s .args .self in
-    let z = sized k (s .good .0, tt) in
-    let v = c .before .before .before .before .before .before .before .before .sound in
-    let t = c .before .before .before .before .before .before .before .if1 .left in
-    says-refused k z (v .result) (v .ensures) t (Command.leaveIfChanged (s .args .id)) _ (node-refused k z (v .result) (v .ensures) t (s .args .id) runningTests _ _ _ (c .before .before .before .check-running .ensures) (c .before .checked .given .1))
-
-enum-told : tie.Need-enum-told
-enum-told c = search needs
-
-target-table-requires : tie.Need-target-table-requires
-target-table-requires c κs = search needs
+    let a = c .before .before .before in
+    let e = entered a in
+    refuses e (node-refuses (K e) (id e) Row.Running (a .check-running .ensures) _ (c .before .checked .given .1))
 
 returns-4 : tie.Need-returns-4
-returns-4 c =
-    let s = c .before .before .before .before .before .before .before .before .before .before .before .before .before in
-    let k = s .args .self in
-    let z = sized k (s .good .0, tt) in
-    let v = c .before .before .before .before .before .before .before .before .before .before .before .before .sound in
-    let t = c .before .before .before .before .before .before .before .before .before .before .before .if1 .left in
-    let q = done-passed (runningTests (getD (k .nodes) (s .args .id) blankNode)) _ (c .before .before .before .before .before .before .before .check-running .ensures) (c .before .before .before .before .before .enum-told .given .1) in
-    says-refused k z (v .result) (v .ensures) t (Command.leaveIfChanged (s .args .id)) Error.Changed (node-past k z (v .result) (v .ensures) t (s .args .id) runningTests _ _ (c .before .before .before .before .before .before .before .check-running .ensures) (c .before .before .before .before .before .enum-told .given .1) ∙ stop _ _ _ (target-there k z (v .result) (v .ensures) t (s .args .id) (c .before .before .before .target-table .result) (c .before .before .before .target-table .ensures) (q .0) ∙ c .if3 .taken))
+returns-4 c = let f = c .before .before .before in refuses (at f) (rest (P f) _ ∙ stop _ _ _ (ap not (gone f) ∙ c .if3 .taken))
 
 returns-5 : tie.Need-returns-5
-returns-5 c =
-    let s = c .before .before .before .before .before .before .before .before .before .before .before .before .before in
-    let k = s .args .self in
-    let z = sized k (s .good .0, tt) in
-    let v = c .before .before .before .before .before .before .before .before .before .before .before .before .sound in
-    let t = c .before .before .before .before .before .before .before .before .before .before .before .if1 .left in
-    let p = node-passed k z (v .result) (v .ensures) t (s .args .id) runningTests _ (c .before .before .before .before .before .before .before .check-running .ensures) (c .before .before .before .before .before .enum-told .given .1) in
-    let q = done-passed (runningTests (getD (k .nodes) (s .args .id) blankNode)) _ (c .before .before .before .before .before .before .before .check-running .ensures) (c .before .before .before .before .before .enum-told .given .1) in
-    says-done k z (v .result) (v .ensures) t (Command.leaveIfChanged (s .args .id)) (p .0, (p .1 .0, (target-there k z (v .result) (v .ensures) t (s .args .id) (c .before .before .before .target-table .result) (c .before .before .before .target-table .ensures) (q .0) ∙ c .if3 .left, tt)))
+returns-5 c = let f = c .before .before .before in passes (at f) (rest (P f) _ ∙ skip _ _ _ (ap not (gone f) ∙ c .if3 .left) ∙ of-passed [] tt)
 
 pub check-leave-if-changed-spec : {M : Type 1} → statement M
 check-leave-if-changed-spec =
     tie.close
     (tie.spec
-    sound-requires
+    (λ c κs. search needs)  -- sound-requires
     returns
     returns-2
-    mul-node
-    array-copy-out-node
-    check-running-requires
-    enum-known-checked
+    (λ c. search needs)  -- mul-node
+    (λ c. search needs)  -- array-copy-out-node
+    (λ c κs. search needs)  -- check-running-requires
+    (λ c. search needs)  -- enum-known-checked
     returns-3
-    enum-told
-    target-table-requires
+    (λ c. search needs)  -- enum-told
+    (λ c κs. search needs)  -- target-table-requires
     returns-4
     returns-5)

@@ -1,81 +1,53 @@
 -- `kernel::Kernel::check_release_provision` meets its contract.
-use mathlib.Core.Path.{_∙_}
-use mathlib.Core.Bool.{false, not, true}
-use borrow.Author.Needs.{needs}
-use Rattle.model.specs.declared.Error.{Error}
-use Rattle.kernel.proofs.Laws.Checked.{says-damaged, says-done, says-refused}
-use Rattle.kernel.proofs.Laws.Commanded.{absent-unknown, node-has, past-unknown}
-use Rattle.kernel.proofs.Laws.Sized.{sized}
-use Rattle.kernel.proofs.Laws.Stored.{link-found}
-use Rattle.model.proofs.Laws.Refusals.{skip, stop}
-use Rattle.model.specs.Commands.{Command}
-use Rattle.model.specs.Interface.{reliesOn}
-use Rattle.kernel.proofs.Kernel.check_release_provision.Statement.{statement}
+use mathlib.Core.{List.[], Path._∙_, Path.refl, Path.sym}
+use borrow.{Author.Needs.needs}
+use Rattle.model.specs.{Interface.releaseProvisionTests, Layouts.tablesOf, Refusals.Tests, Rows.nodeTests, Tables.Tables, declared.checks.Row.Row}
+use Rattle.kernel.proofs.{Kernel.check_release_provision.Statement.statement, Laws.Sized.sized}
+use Rattle.kernel.specs.{Fields.layoutOf}
+use Rattle.layouts.proofs.{Laws.Nodes.Tested, Laws.Nodes.rest, Laws.Nodes.tested, Laws.Rows.refused-row, Laws.Rows.row-passes, Laws.Rows.row-refuses}
+use Rattle.layouts.specs.{Rows.ofNode}
+use Rattle.model.proofs.{Laws.Refusals.of-passed, Laws.Refusals.skip, Laws.Refusals.stop}
+use Rattle.sizes.specs.{Sizes.sizes}
 use Rattle.kernel.proofs.Kernel.check_release_provision.Tie as tie
 
-sound-requires : tie.Need-sound-requires
-sound-requires c κs = search needs
+-- the whole row
+abbrev row : tie.Start → Tables → Tests
+row s T = releaseProvisionTests T (s .args .id) (s .args .port)
+
+-- past the tests of the node
+module _ (d : tie.After-enum-told) where
+  abbrev s : tie.Start
+  s = d .before .before .before
+
+  P : Tested sizes (layoutOf (s .args .self)) Row.Present (s .args .id)
+  P = tested (sized (s .args .self) (s .good .0, tt)) Row.Present (s .args .id) (d .before .before .check-node .ensures) (d .enum-told .given .1)
 
 returns : tie.Need-returns
 returns c =
-    let a = c .before .before .args in
-    says-damaged (a .self) (Command.releaseProvision (a .id) (a .port)) (c .before .sound .result) (c .before .sound .ensures) (c .if1 .taken)
+    let a = c .before .before .before in
+    let s = a .before in
+    refused-row (sized (s .args .self) (s .good .0, tt)) (ofNode (nodeTests Row.Present) (s .args .id)) _ (a .check-node .ensures) _ (c .before .checked .given .1) (row s) refl
 
 returns-2 : tie.Need-returns-2
+unfolding tablesOf
 returns-2 c =
-    let s = c .before .before .before in
-    let k = s .args .self in
-    let z = sized k (s .good .0, tt) in
-    let v = c .before .before .sound in
-    let t = c .before .if1 .left in
-    says-refused k z (v .result) (v .ensures) t (Command.releaseProvision (s .args .id) (s .args .port)) Error.Unknown (past-unknown k z (v .result) (v .ensures) t (s .args .id) _ (c .if2 .taken))
-
-mul-node : tie.Need-mul-node
-mul-node c = search needs
-
-array-copy-out-node : tie.Need-array-copy-out-node
-array-copy-out-node c = search needs
+    let d = c .before .before .before in
+    row-refuses (P d .kernel) (row (s d)) (rest (P d) _ ∙ stop _ _ _ (sym (c .before .relies-on .ensures) ∙ c .if1 .taken))
 
 returns-3 : tie.Need-returns-3
+unfolding tablesOf
 returns-3 c =
-    let s = c .before .before .before .before .before .before .before in
-    let k = s .args .self in
-    let z = sized k (s .good .0, tt) in
-    let v = c .before .before .before .before .before .before .sound in
-    let t = c .before .before .before .before .before .if1 .left in
-    says-refused k z (v .result) (v .ensures) t (Command.releaseProvision (s .args .id) (s .args .port)) Error.Unknown (absent-unknown k z (v .result) (v .ensures) t (s .args .id) _ (c .if3 .taken))
-
-relies-on-requires : tie.Need-relies-on-requires
-relies-on-requires c κs = search needs
-
-returns-4 : tie.Need-returns-4
-returns-4 c =
-    let s = c .before .before .before .before .before .before .before .before .before .before in
-    let k = s .args .self in
-    let z = sized k (s .good .0, tt) in
-    let v = c .before .before .before .before .before .before .before .before .before .sound in
-    let t = c .before .before .before .before .before .before .before .before .if1 .left in
-    says-refused k z (v .result) (v .ensures) t (Command.releaseProvision (s .args .id) (s .args .port)) Error.Relied (skip _ _ _ (node-has k z (v .result) (v .ensures) t (λ n. not (n .present)) false (s .args .id) (c .before .before .before .if3 .left)) ∙ stop _ _ _ (link-found k (reliesOn (s .args .id) (s .args .port)) (c .before .relies-on .result) true (c .before .relies-on .ensures) (c .if4 .taken)))
-
-returns-5 : tie.Need-returns-5
-returns-5 c =
-    let s = c .before .before .before .before .before .before .before .before .before .before in
-    let k = s .args .self in
-    let z = sized k (s .good .0, tt) in
-    let v = c .before .before .before .before .before .before .before .before .before .sound in
-    let t = c .before .before .before .before .before .before .before .before .if1 .left in
-    says-done k z (v .result) (v .ensures) t (Command.releaseProvision (s .args .id) (s .args .port)) (node-has k z (v .result) (v .ensures) t (λ n. not (n .present)) false (s .args .id) (c .before .before .before .if3 .left), (link-found k (reliesOn (s .args .id) (s .args .port)) (c .before .relies-on .result) false (c .before .relies-on .ensures) (c .if4 .left), tt))
+    let d = c .before .before .before in
+    row-passes (P d .kernel) (row (s d)) (rest (P d) _ ∙ skip _ _ _ (sym (c .before .relies-on .ensures) ∙ c .if1 .left) ∙ of-passed [] tt)
 
 pub check-release-provision-spec : {M : Type 1} → statement M
 check-release-provision-spec =
     tie.close
     (tie.spec
-    sound-requires
+    (λ c κs. search needs)  -- check-node-requires
+    (λ c. search needs)  -- enum-known-checked
     returns
+    (λ c. search needs)  -- enum-told
+    (λ c κs. search needs)  -- relies-on-requires
     returns-2
-    mul-node
-    array-copy-out-node
-    returns-3
-    relies-on-requires
-    returns-4
-    returns-5)
+    returns-3)

@@ -1,36 +1,37 @@
 -- `kernel::Kernel::committed` meets its contract.
-use mathlib.Core.Path.{_∙_, ap, sym}
-use mathlib.Core.List.{[]}
-use borrow.Author.Needs.{needs}
-use Rattle.kernel.proofs.Laws.Observed.{ask-sound, ask-unsound}
-use Rattle.kernel.proofs.Laws.Sized.{sized}
-use Rattle.model.specs.Layouts.{tablesOf}
-use Rattle.model.specs.Lists.{keep}
-use Rattle.model.specs.Resolution.{committed}
-use Rattle.scans.specs.Answers.{committedBindings}
-use Rattle.kernel.proofs.Kernel.committed.Statement.{statement}
+use mathlib.Core.{List.List, List.[], Path._∙_, Path.ap, Path.refl}
+use borrow.{Author.Needs.needs}
+use Rattle.model.specs.{Layouts.tablesOf, Lists.keep, Resolution.committed, Tables.Tables, declared.Binding.Binding}
+use Rattle.kernel.proofs.{Kernel.committed.Statement.statement, Laws.Observers.asks-sound, Laws.Observers.asks-unsound, Laws.Sized.sized}
+use Rattle.layouts.proofs.{Laws.Sound.tested-sound}
+use Rattle.scans.specs.{Answers.committedBindings}
 use Rattle.kernel.proofs.Kernel.committed.Tie as tie
 
-sound-requires : tie.Need-sound-requires
-sound-requires c κs = search needs
-
-committed-in-requires : tie.Need-committed-in-requires
-committed-in-requires c κs = search needs
+-- what is asked of the tables
+abbrev question : tie.Start → Tables → List Binding
+question s T = committed (T .links) (s .args .id)
 
 returns : tie.Need-returns
 unfolding committed keep
-returns c = c .committed-in .ensures
-    ∙ sym (ap committedBindings (ask-unsound (c .before .before .before .before .args .self) (c .before .before .sound .result) [] (λ T. committed (T .links) (c .before .before .before .before .args .id)) (c .before .before .sound .ensures) (c .before .if1 .taken)))
-
-committed-in-requires-2 : tie.Need-committed-in-requires-2
-committed-in-requires-2 c κs = search needs
+returns c =
+    let e = c .before in
+    let s = e .before .before .before in
+    c .committed-in .ensures ∙ ap committedBindings (asks-unsound (s .args .self) [] (question s) (e .before .sound .ensures) (e .if1 .taken))
 
 returns-2 : tie.Need-returns-2
 unfolding tablesOf
-returns-2 c = c .committed-in2 .ensures
-    ∙ sym (ap committedBindings (ask-sound (c .before .before .before .before .args .self) (sized (c .before .before .before .before .args .self) (c .before .before .before .before .good .0, tt)) (c .before .before .sound .result) (c .before .before .sound .ensures) (c .before .if1 .left) [] (λ T. committed (T .links) (c .before .before .before .before .args .id))))
+returns-2 c =
+    let e = c .before in
+    let s = e .before .before .before in
+    let K = tested-sound (sized (s .args .self) (s .good .0, tt)) (e .before .sound .ensures) (e .if1 .left) in
+    c .committed-in2 .ensures ∙ ap committedBindings (asks-sound K [] (question s) refl)
 
 pub committed-spec : {M : Type 1} → statement M
 committed-spec =
     tie.close
-    (tie.spec sound-requires committed-in-requires returns committed-in-requires-2 returns-2)
+    (tie.spec
+    (λ c κs. search needs)  -- sound-requires
+    (λ c κs. search needs)  -- committed-in-requires
+    returns
+    (λ c κs. search needs)  -- committed-in-requires-2
+    returns-2)

@@ -1,43 +1,46 @@
 -- `kernel::Kernel::compact_bindings` meets its contract.
-use mathlib.Core.Bool.{not}
-use mathlib.Core.Path.{_∙_, ap, sym}
-use borrow.Author.Needs.{needs}
-use Rattle.model.specs.declared.Answer.{Answer}
-use Rattle.kernel.proofs.Laws.Commanded.{accepted-by, damaged}
-use Rattle.kernel.proofs.Laws.Sized.{sized}
-use Rattle.kernel.proofs.Laws.Stored.{links-fewer, links-gone, links-kept}
-use Rattle.kernel.specs.Outcomes.{compactionOutcome}
-use Rattle.model.specs.Commands.{Command}
-use Rattle.kernel.proofs.Kernel.compact_bindings.Statement.{statement}
+use mathlib.Core.{Bool.not, List.List, List.[], Path.ap}
+use lib.{ListN.take}
+use borrow.{Author.Needs.needs}
+use Rattle.model.specs.{Commands.Command, Layouts.tablesOf, declared.records.Link.Link}
+use Rattle.kernel.proofs.{Kernel.compact_bindings.Statement.statement, Laws.Kept.links-held, Laws.Outcomes.compacts, Laws.Outcomes.compacts-damaged, Laws.Sized.sized}
+use Rattle.kernel.specs.{Fields.layoutOf}
+use Rattle.layouts.proofs.{Laws.Anew.kept-fewer, Laws.Anew.kept-gone, Laws.Anew.links-anew, Laws.Rows.accepted-by, Laws.Sound.SoundKernel, Laws.Sound.link-count-is, Laws.Sound.tested-sound}
+use Rattle.model.proofs.{Laws.Refusals.of-passed}
+use Rattle.sizes.specs.{Sizes.sizes}
 use Rattle.kernel.proofs.Kernel.compact_bindings.Tie as tie
 
-sound-requires : tie.Need-sound-requires
-sound-requires c κs = search needs
+-- the kernel is sound, and its live links are kept
+module _ (f : tie.After-live-links) where
+  abbrev s : tie.Start
+  s = f .before .before .before .before
 
-live-links-requires : tie.Need-live-links-requires
-live-links-requires c κs = search needs
+  K : SoundKernel sizes (layoutOf (s .args .self))
+  K = tested-sound (sized (s .args .self) (s .good .0, tt)) (f .before .before .before .sound .ensures) (ap not (f .before .before .if1 .taken))
+
+  abbrev links : List Link
+  links = take (s .args .self .«link_count») (s .args .self .links)
 
 sub-removed : tie.Need-sub-removed
-sub-removed c =
-    let s = c .before .before .before .before .before in
-    let k = s .args .self in
-    let z = sized k (s .good .0, tt) in
-    let v = c .before .before .before .before .sound in
-    let t = ap not (c .before .before .before .if1 .taken) in
-    links-fewer k z (v .result) (v .ensures) t (λ l. l .live) (c .before .live-links .result) (c .before .live-links .ensures)
+unfolding tablesOf
+sub-removed c = let f = c .before in kept-fewer (λ l. l .live) (links f) (links-held (f .live-links .ensures)) (link-count-is (K f))
 
 returns : tie.Need-returns
+unfolding tablesOf
 returns c =
-    let s = c .before .before .before .before .before in
-    let k = s .args .self in
-    let z = sized k (s .good .0, tt) in
-    let v = c .before .before .before .before .sound in
-    let t = ap not (c .before .before .before .if1 .taken) in
-    sym (ap compactionOutcome (accepted-by k z (v .result) (v .ensures) t Command.compactBindings tt) ∙ (λ i. record { kernel = links-kept k z (v .result) (v .ensures) t (λ l. l .live) (c .before .live-links .result) (c .before .live-links .ensures) i; answer = Answer.Done; removed = links-gone k z (v .result) (v .ensures) t (λ l. l .live) (c .before .live-links .result) (c .before .live-links .ensures) i }))
+    let f = c .before in
+    let kept = links-held (f .live-links .ensures) in
+    compacts (s f .args .self) Command.compactBindings (accepted-by (K f) Command.compactBindings (of-passed [] tt)) _ (links-anew (K f) _ kept) (kept-gone (λ l. l .live) (links f) kept (link-count-is (K f)))
 
 returns-2 : tie.Need-returns-2
-returns-2 c = sym (ap compactionOutcome (damaged (c .before .before .args .self) Command.compactBindings (c .before .sound .result) (c .before .sound .ensures) (ap not (c .if1 .left))))
+returns-2 c = compacts-damaged (c .before .before .args .self) Command.compactBindings (c .before .sound .ensures) (c .if1 .left)
 
 pub compact-bindings-spec : {M : Type 1} → statement M
 compact-bindings-spec =
-    tie.close (tie.spec sound-requires live-links-requires sub-removed returns returns-2)
+    tie.close
+    (tie.spec
+    (λ c κs. search needs)  -- sound-requires
+    (λ c κs. search needs)  -- live-links-requires
+    sub-removed
+    returns
+    returns-2)

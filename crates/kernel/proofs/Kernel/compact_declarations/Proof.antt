@@ -1,68 +1,65 @@
 -- `kernel::Kernel::compact_declarations` meets its contract.
-use mathlib.Core.Bool.{not}
-use mathlib.Core.Path.{_∙_, _≡_, ap, refl, sym}
-use mathlib.Core.Bool.{Bool}
-use Prim.Native.Nat.{ℕ}
-use lib.ListN.{take}
-use borrow.Author.Needs.{needs}
-use Rattle.model.specs.declared.Answer.{Answer}
-use Rattle.scans.specs.declared.NodeFlags.{NodeFlags}
-use Rattle.edits.specs.Kept.{keptDeclarations}
-use Rattle.kernel.proofs.Laws.Commanded.{accepted-by, damaged}
-use Rattle.kernel.proofs.Laws.Observed.{nodes-flagged}
-use Rattle.kernel.proofs.Laws.Sized.{sized}
-use Rattle.kernel.proofs.Laws.Stored.{declarations-fewer, declarations-gone, declarations-kept}
-use Rattle.kernel.specs.Fields.{layoutOf}
-use Rattle.kernel.specs.Outcomes.{compactionOutcome}
-use Rattle.model.specs.Commands.{Command}
-use Rattle.model.specs.Layouts.{tablesOf}
-use Rattle.model.specs.Lists.{keep}
-use Rattle.model.specs.Tables.{present}
-use Rattle.scans.specs.Columns.{flag}
-use Rattle.kernel.proofs.Kernel.compact_declarations.Statement.{statement}
+use mathlib.Core.{Bool.Bool, Bool.not, List.List, List.[], Path._∙_, Path.ap, Path.refl}
+use Prim.Native.{Nat.ℕ}
+use lib.{ListN.take}
+use borrow.{Author.Needs.needs}
+use Rattle.model.specs.{Commands.Command, Layouts.tablesOf, Lists.keep, Records.blankDeclaration, Tables.present, declared.records.Declaration.Declaration}
+use Rattle.scans.specs.{declared.NodeFlags.NodeFlags}
+use Rattle.edits.specs.{Kept.keptDeclarations}
+use Rattle.kernel.proofs.{Kernel.compact_declarations.Statement.statement, Laws.Kept.declarations-held, Laws.Outcomes.compacts, Laws.Outcomes.compacts-damaged, Laws.Sized.sized}
+use Rattle.kernel.specs.{Fields.layoutOf}
+use Rattle.layouts.proofs.{Laws.Anew.Holds, Laws.Anew.declarations-anew, Laws.Anew.kept-fewer, Laws.Anew.kept-gone, Laws.Rows.accepted-by, Laws.Sound.SoundKernel, Laws.Sound.declaration-count-is, Laws.Sound.nodes-flagged, Laws.Sound.tested-sound}
+use Rattle.model.proofs.{Laws.Refusals.of-passed}
+use Rattle.loops.specs.{Columns.flag}
+use Rattle.sizes.specs.{Sizes.DECLARATIONS, Sizes.IDENTITIES, Sizes.sizes}
 use Rattle.kernel.proofs.Kernel.compact_declarations.Tie as tie
 
-sound-requires : tie.Need-sound-requires
-sound-requires c κs = search needs
+-- the kernel is sound, and the declarations of present owners are kept
+module _ (f : tie.After-kept-declarations) where
+  abbrev g : tie.After-node-flags
+  g = f .before .before
 
-node-flags-requires : tie.Need-node-flags-requires
-node-flags-requires c κs = search needs
+  abbrev e : tie.Then1
+  e = g .before .before .before
 
-owned-declarations-requires : tie.Need-owned-declarations-requires
-owned-declarations-requires c κs = search needs
+  abbrev s : tie.Start
+  s = e .before .before
+
+  K : SoundKernel sizes (layoutOf (s .args .self))
+  K = tested-sound (sized (s .args .self) (s .good .0, tt)) (e .before .sound .ensures) (ap not (e .if1 .taken))
+
+  abbrev owned : Declaration → Bool
+  owned d = present ((tablesOf (layoutOf (s .args .self))) .nodes) (d .owner)
+
+  abbrev declarations : List Declaration
+  declarations = take (s .args .self .«declaration_count») (s .args .self .declarations)
+
+  kept : Holds DECLARATIONS blankDeclaration (keep owned declarations) (f .kept-declarations .result .declarations) (f .kept-declarations .result .count)
+  kept =
+      let F = ap (λ (x : NodeFlags). flag IDENTITIES (x .present)) (g .node-flags .ensures) ∙ nodes-flagged K (λ n. n .present) refl in
+      declarations-held (f .kept-declarations .ensures ∙ ap (λ (G : ℕ → Bool). keptDeclarations (keep (λ d. G (d .owner)) declarations)) F)
 
 sub-removed : tie.Need-sub-removed
-sub-removed c =
-    let s = c .before .before .before .before .before .before .before .before in
-    let k = s .args .self in
-    let z = sized k (s .good .0, tt) in
-    let v = c .before .before .before .before .before .before .before .sound in
-    let t = ap not (c .before .before .before .before .before .before .if1 .taken) in
-    let p : flag 64 (c .before .before .before .node-flags .result .present) ≡ present ((tablesOf (layoutOf k)) .nodes) = ap (λ (f : NodeFlags). flag 64 (f .present)) (c .before .before .before .node-flags .ensures) ∙ nodes-flagged k z (v .result) (v .ensures) t (λ n. n .present) refl in
-    let r : c .before .owned-declarations .result ≡ keptDeclarations (keep (λ d. present ((tablesOf (layoutOf k)) .nodes) (d .owner)) (take (k .«declaration_count») (k .declarations))) = c .before .owned-declarations .ensures ∙ ap (λ (q : ℕ → Bool). keptDeclarations (keep (λ d. q (d .owner)) (take (k .«declaration_count») (k .declarations)))) p in
-    declarations-fewer k z (v .result) (v .ensures) t (λ d. present ((tablesOf (layoutOf k)) .nodes) (d .owner)) (c .before .owned-declarations .result) r
+unfolding tablesOf
+sub-removed c = let f = c .before in kept-fewer (owned f) (declarations f) (kept f) (declaration-count-is (K f))
 
 returns : tie.Need-returns
+unfolding tablesOf
 returns c =
-    let s = c .before .before .before .before .before .before .before .before in
-    let k = s .args .self in
-    let z = sized k (s .good .0, tt) in
-    let v = c .before .before .before .before .before .before .before .sound in
-    let t = ap not (c .before .before .before .before .before .before .if1 .taken) in
-    let p : flag 64 (c .before .before .before .node-flags .result .present) ≡ present ((tablesOf (layoutOf k)) .nodes) = ap (λ (f : NodeFlags). flag 64 (f .present)) (c .before .before .before .node-flags .ensures) ∙ nodes-flagged k z (v .result) (v .ensures) t (λ n. n .present) refl in
-    let r : c .before .owned-declarations .result ≡ keptDeclarations (keep (λ d. present ((tablesOf (layoutOf k)) .nodes) (d .owner)) (take (k .«declaration_count») (k .declarations))) = c .before .owned-declarations .ensures ∙ ap (λ (q : ℕ → Bool). keptDeclarations (keep (λ d. q (d .owner)) (take (k .«declaration_count») (k .declarations)))) p in
-    sym (ap compactionOutcome (accepted-by k z (v .result) (v .ensures) t Command.compactDeclarations tt) ∙ (λ i. record { kernel = declarations-kept k z (v .result) (v .ensures) t (λ d. present ((tablesOf (layoutOf k)) .nodes) (d .owner)) (c .before .owned-declarations .result) r i; answer = Answer.Done; removed = declarations-gone k z (v .result) (v .ensures) t (λ d. present ((tablesOf (layoutOf k)) .nodes) (d .owner)) (c .before .owned-declarations .result) r i }))
+    let f = c .before in
+    let gone = kept-gone (owned f) (declarations f) (kept f) (declaration-count-is (K f)) in
+    compacts (s f .args .self) Command.compactDeclarations (accepted-by (K f) Command.compactDeclarations (of-passed [] tt)) _ (declarations-anew (K f) _ (kept f)) gone
 
 returns-2 : tie.Need-returns-2
-returns-2 c = sym (ap compactionOutcome (damaged (c .before .before .args .self) Command.compactDeclarations (c .before .sound .result) (c .before .sound .ensures) (ap not (c .if1 .left))))
+returns-2 c = compacts-damaged (c .before .before .args .self) Command.compactDeclarations (c .before .sound .ensures) (c .if1 .left)
 
 pub compact-declarations-spec : {M : Type 1} → statement M
 compact-declarations-spec =
     tie.close
     (tie.spec
-    sound-requires
-    node-flags-requires
-    owned-declarations-requires
+    (λ c κs. search needs)  -- sound-requires
+    (λ c κs. search needs)  -- node-flags-requires
+    (λ c κs. search needs)  -- kept-declarations-requires
     sub-removed
     returns
     returns-2)

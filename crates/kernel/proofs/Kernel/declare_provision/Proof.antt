@@ -1,123 +1,112 @@
 -- `kernel::Kernel::declare_provision` meets its contract.
-use mathlib.Core.Bool.{false, true}
-use mathlib.Core.Path.{_∙_, _≡_, ap, refl, sym}
-use borrow.Author.Needs.{needs}
-use borrow.Author.Tests.{le-leb, lt-leb}
-use Rattle.model.specs.declared.Error.{Error}
-use Rattle.kernel.proofs.Laws.Commanded.{accepted-by, node-passed, node-past, refused-by}
-use Rattle.kernel.proofs.Laws.Declared.{declared-before, declared-now, full, not-owned, own-is, owned, taken-is}
-use Rattle.kernel.proofs.Laws.Ready.{node-kept, node-went}
-use Rattle.kernel.proofs.Laws.Sized.{sized}
-use Rattle.kernel.specs.Fields.{layoutOf}
-use Rattle.kernel.specs.Outcomes.{outcome}
-use Rattle.model.proofs.Laws.Booleans.{not-f, not-t}
-use Rattle.model.proofs.Laws.Refusals.{skip, stop}
-use Rattle.model.specs.Commands.{Command}
-use Rattle.model.specs.Interface.{declareNodeTests, own}
-use Rattle.model.specs.Layouts.{tablesOf}
-use Rattle.kernel.proofs.Kernel.declare_provision.Statement.{statement}
+use mathlib.Core.{Bool.Bool, Bool._&&_, Bool.false, Bool.not, Bool.true, List.[], Path._∙_, Path._≡_, Path.ap, Path.refl}
+use lib.{Dec.leb, ListN.length}
+use borrow.{Author.Needs.needs, Author.Tests.le-leb, Author.Tests.lt-leb, Author.Tests.not-false, Author.Tests.not-true}
+use Rattle.layouts.proofs.{Laws.Declarations.declared-before, Laws.Declarations.declared-now, Laws.Declarations.own-is, Laws.Declarations.taken-is, Laws.Nodes.Tested, Laws.Nodes.rest, Laws.Nodes.tested, Laws.Sound.declaration-count-is}
+use Rattle.model.specs.{Commands.Command, Interface.own, Interface.taken, Layouts.tablesOf, Rows.nodeTests, Tables.Tables, declared.checks.Row.Row}
+use Rattle.scans.specs.{declared.NodeFlags.NodeFlags}
+use Rattle.kernel.proofs.{Kernel.declare_provision.Statement.statement, Laws.Outcomes.answered, Laws.Outcomes.hands-accepted, Laws.Outcomes.hands-refusal, Laws.Outcomes.hands-refused, Laws.Sized.sized}
+use Rattle.kernel.specs.{Fields.layoutOf}
+use Rattle.layouts.specs.{Rows.ofNode}
+use Rattle.model.proofs.{Laws.Refusals.of-passed, Laws.Refusals.skip, Laws.Refusals.stop}
+use Rattle.sizes.specs.{Sizes.DECLARATIONS, Sizes.sizes}
 use Rattle.kernel.proofs.Kernel.declare_provision.Tie as tie
 
-check-declare-requires : tie.Need-check-declare-requires
-check-declare-requires c κs = search needs
+-- a test that applies only to what this owner does not provide yet
+owned : (a b : Bool) → a ≡ true → not a && b ≡ false
+owned a b p = rw p
 
-enum-told : tie.Need-enum-told
-enum-told c = search needs
+not-owned : (a b : Bool) {x : Bool} → a ≡ false → b ≡ x → not a && b ≡ x
+not-owned a b p q = rw p q
 
-declares-in-requires : tie.Need-declares-in-requires
-declares-in-requires c κs = search needs
+abbrev command : tie.Start → Command
+command s = Command.declareProvision (s .args .id) (s .args .port)
 
-node-flags-requires : tie.Need-node-flags-requires
-node-flags-requires c κs = search needs
+-- past the tests of the node
+module _ (d : tie.After-enum-told) where
+  abbrev s : tie.Start
+  s = d .before .before .before
 
-taken-in-requires : tie.Need-taken-in-requires
-taken-in-requires c κs = search needs
+  abbrev T : Tables
+  T = tablesOf (layoutOf (s .args .self))
 
-provision-requires : tie.Need-provision-requires
-provision-requires c κs = search needs
+  P : Tested sizes (layoutOf (s .args .self)) Row.Declare (s .args .id)
+  P = tested (sized (s .args .self) (s .good .0, tt)) Row.Declare (s .args .id) (d .before .before .check-node .ensures) (d .enum-told .given .1)
 
-mul-declarations : tie.Need-mul-declarations
-mul-declarations c = search needs
+-- whether this owner provides the port
+module _ (f : tie.After-declares-in) where
+  abbrev e : tie.After-enum-told
+  e = f .before .before .before
 
-array-set-from-declarations : tie.Need-array-set-from-declarations
-array-set-from-declarations c = search needs
+  provides : {b : Bool} → f .declares-in .result ≡ b → own (T e) (s e .args .id) (s e .args .port) ≡ b
+  provides h = own-is (P e .kernel) (s e .args .id) (s e .args .port) (f .declares-in .ensures) ∙ h
 
-add-self : tie.Need-add-self
-add-self c = search needs
+-- it does not; whether another does
+module _ (g : tie.After-taken-in) where
+  abbrev m : tie.After-node-flags
+  m = g .before .before
 
-enum-told-2 : tie.Need-enum-told-2
-enum-told-2 c = search needs
+  abbrev n : tie.After-declares-in
+  n = m .before .before
+
+  new : own (T (e n)) (s (e n) .args .id) (s (e n) .args .port) ≡ false
+  new = provides n (not-true _ (m .before .if1 .taken))
+
+  other : {b : Bool} → g .taken-in .result ≡ b → not (own (T (e n)) (s (e n) .args .id) (s (e n) .args .port)) && taken (T (e n)) (s (e n) .args .port) ≡ b
+  other h = not-owned _ _ new (taken-is (P (e n) .kernel) (ap (λ (x : NodeFlags). x .present) (m .node-flags .ensures)) (s (e n) .args .port) (g .taken-in .ensures) ∙ h)
+
+  full : {b : Bool} → leb DECLARATIONS (s (e n) .args .self .«declaration_count») ≡ b → not (own (T (e n)) (s (e n) .args .id) (s (e n) .args .port)) && leb DECLARATIONS (length (T (e n) .declarations)) ≡ b
+  full h = not-owned _ _ new (ap (leb DECLARATIONS) (declaration-count-is (P (e n) .kernel)) ∙ h)
 
 returns : tie.Need-returns
 returns c =
-    let s = c .before .before .before .before .before .before .before .before .before .before .before in
-    let k = s .args .self in
-    let z = sized k (s .good .0, tt) in
-    let a = c .before .before .before .before .before .before .before .before .before .before .check-declare in
-    let d = c .before .before .before .before .before .before .before .before .enum-told .given .1 in
-    let w = node-went k z declareNodeTests (s .args .id) (a .result) (a .ensures) d in
-    let e = sym (w .0) in
-    let o : own (tablesOf (layoutOf k)) (s .args .id) (s .args .port) ≡ false = own-is k z true e refl (c .before .before .before .before .before .declares-in .result) (s .args .id) (s .args .port) (c .before .before .before .before .before .declares-in .ensures) ∙ not-t _ (c .before .before .before .before .if1 .taken) in
-    sym (ap outcome (refused-by k z true e refl (Command.declareProvision (s .args .id) (s .args .port)) Error.Conflict (node-past k z true e refl (s .args .id) declareNodeTests _ _ (w .1) d ∙ stop _ _ _ (not-owned _ _ _ o (taken-is k z true e refl (c .before .taken-in .result) (s .args .port) (c .before .before .before .node-flags .result) (c .before .before .before .node-flags .ensures) (c .before .taken-in .ensures) ∙ c .if2 .taken)))))
+    let g = c .before in
+    let d = e (n g) in
+    hands-refused (P d .kernel) (command (s d)) (rest (P d) _ ∙ stop _ _ _ (other g (c .if2 .taken)))
 
 returns-2 : tie.Need-returns-2
 returns-2 c =
-    let s = c .before .before .before .before .before .before .before .before .before .before .before .before in
-    let k = s .args .self in
-    let z = sized k (s .good .0, tt) in
-    let a = c .before .before .before .before .before .before .before .before .before .before .before .check-declare in
-    let d = c .before .before .before .before .before .before .before .before .before .enum-told .given .1 in
-    let w = node-went k z declareNodeTests (s .args .id) (a .result) (a .ensures) d in
-    let e = sym (w .0) in
-    let o : own (tablesOf (layoutOf k)) (s .args .id) (s .args .port) ≡ false = own-is k z true e refl (c .before .before .before .before .before .before .declares-in .result) (s .args .id) (s .args .port) (c .before .before .before .before .before .before .declares-in .ensures) ∙ not-t _ (c .before .before .before .before .before .if1 .taken) in
-    sym (ap outcome (refused-by k z true e refl (Command.declareProvision (s .args .id) (s .args .port)) Error.Capacity (node-past k z true e refl (s .args .id) declareNodeTests _ _ (w .1) d ∙ skip _ _ _ (not-owned _ _ _ o (taken-is k z true e refl (c .before .before .taken-in .result) (s .args .port) (c .before .before .before .before .node-flags .result) (c .before .before .before .before .node-flags .ensures) (c .before .before .taken-in .ensures) ∙ c .before .if2 .left)) ∙ stop _ _ _ (not-owned _ _ _ o (full k z true e refl _ (le-leb _ _ (c .if3 .taken)))))))
+    let g = c .before .before in
+    let d = e (n g) in
+    hands-refused (P d .kernel) (command (s d)) (rest (P d) _ ∙ skip _ _ _ (other g (c .before .if2 .left)) ∙ stop _ _ _ (full g (le-leb _ _ (c .if3 .taken))))
 
 returns-3 : tie.Need-returns-3
 returns-3 c =
-    let s = c .before .before .before .before .before .before .before .before .before .before .before .before .before in
-    let k = s .args .self in
-    let z = sized k (s .good .0, tt) in
-    let a = c .before .before .before .before .before .before .before .before .before .before .before .before .check-declare in
-    let d = c .before .before .before .before .before .before .before .before .before .before .enum-told .given .1 in
-    let w = node-went k z declareNodeTests (s .args .id) (a .result) (a .ensures) d in
-    let e = sym (w .0) in
-    let p = node-passed k z true e refl (s .args .id) declareNodeTests _ (w .1) d in
-    let o : own (tablesOf (layoutOf k)) (s .args .id) (s .args .port) ≡ false = own-is k z true e refl (c .before .before .before .before .before .before .before .declares-in .result) (s .args .id) (s .args .port) (c .before .before .before .before .before .before .before .declares-in .ensures) ∙ not-t _ (c .before .before .before .before .before .before .if1 .taken) in
-    sym (ap outcome (accepted-by k z true e refl (Command.declareProvision (s .args .id) (s .args .port)) (p .0, (p .1 .0, (p .1 .1 .0, (not-owned _ _ _ o (taken-is k z true e refl (c .before .before .before .taken-in .result) (s .args .port) (c .before .before .before .before .before .node-flags .result) (c .before .before .before .before .before .node-flags .ensures) (c .before .before .before .taken-in .ensures) ∙ c .before .before .if2 .left), (not-owned _ _ _ o (full k z true e refl _ (lt-leb _ _ (c .before .if3 .left))), tt)))))) ∙ (λ i. record { kernel = (declared-now k z true e refl (s .args .id) (s .args .port) (c .provision .result) o (c .before .if3 .left) (c .provision .ensures)) i; answer = sym d i }))
+    let r = c .before in
+    let g = r .before .before in
+    let d = e (n g) in
+    let row = rest (P d) _ ∙ skip _ _ _ (other g (r .before .if2 .left)) ∙ skip _ _ _ (full g (lt-leb _ _ (r .if3 .left))) ∙ of-passed [] tt in
+    answered (d .enum-told .given .1) (hands-accepted (P d .kernel) (command (s d)) row _ (declared-now (P d .kernel) (s d .args .id) (s d .args .port) (new g) (r .if3 .left) (c .provision .ensures)))
 
 returns-4 : tie.Need-returns-4
 returns-4 c =
-    let s = c .before .before .before .before .before .before .before in
-    let k = s .args .self in
-    let z = sized k (s .good .0, tt) in
-    let a = c .before .before .before .before .before .before .check-declare in
-    let d = c .before .before .before .before .enum-told .given .1 in
-    let w = node-went k z declareNodeTests (s .args .id) (a .result) (a .ensures) d in
-    let e = sym (w .0) in
-    let p = node-passed k z true e refl (s .args .id) declareNodeTests _ (w .1) d in
-    let o : own (tablesOf (layoutOf k)) (s .args .id) (s .args .port) ≡ true = own-is k z true e refl (c .before .declares-in .result) (s .args .id) (s .args .port) (c .before .declares-in .ensures) ∙ not-f _ (c .if1 .left) in
-    sym (ap outcome (accepted-by k z true e refl (Command.declareProvision (s .args .id) (s .args .port)) (p .0, (p .1 .0, (p .1 .1 .0, (owned _ _ o, (owned _ _ o, tt)))))) ∙ (λ i. record { kernel = (declared-before k z true e refl (s .args .id) (s .args .port) o) i; answer = sym d i }))
+    let f = c .before in
+    let d = e f in
+    let mine = provides f (not-false _ (c .if1 .left)) in
+    let row = rest (P d) _ ∙ skip _ _ _ (owned _ _ mine) ∙ skip _ _ _ (owned _ _ mine) ∙ of-passed [] tt in
+    answered (d .enum-told .given .1) (hands-accepted (P d .kernel) (command (s d)) row _ (declared-before (P d .kernel) (s d .args .id) (s d .args .port) mine))
 
 returns-5 : tie.Need-returns-5
 returns-5 c =
-    let s = c .before .before .before in
-    let k = s .args .self in
-    node-kept k (sized k (s .good .0, tt)) declareNodeTests (s .args .id) (c .before .before .check-declare .result) (c .before .before .check-declare .ensures) (Command.declareProvision (s .args .id) (s .args .port)) _ refl _ (c .enum-told2 .given .1)
+    let a = c .before .before in
+    let s = a .before in
+    let r = c .enum-told2 .given .1 in
+    answered r (hands-refusal (sized (s .args .self) (s .good .0, tt)) (command s) (ofNode (nodeTests Row.Declare) (s .args .id)) _ refl (a .check-node .ensures) r)
 
 pub declare-provision-spec : {M : Type 1} → statement M
 declare-provision-spec =
     tie.close
     (tie.spec
-    check-declare-requires
-    enum-told
-    declares-in-requires
-    node-flags-requires
-    taken-in-requires
-    provision-requires
-    mul-declarations
-    array-set-from-declarations
-    add-self
-    enum-told-2
+    (λ c κs. search needs)  -- check-node-requires
+    (λ c. search needs)  -- enum-told
+    (λ c κs. search needs)  -- declares-in-requires
+    (λ c κs. search needs)  -- node-flags-requires
+    (λ c κs. search needs)  -- taken-in-requires
+    (λ c κs. search needs)  -- provision-requires
+    (λ c. search needs)  -- mul-declarations
+    (λ c. search needs)  -- array-set-from-declarations
+    (λ c. search needs)  -- add-self
+    (λ c. search needs)  -- enum-told-2
     returns
     returns-2
     returns-3

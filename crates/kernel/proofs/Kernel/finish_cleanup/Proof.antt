@@ -1,83 +1,57 @@
 -- `kernel::Kernel::finish_cleanup` meets its contract.
-use mathlib.Core.Bool.{true}
-use mathlib.Core.Path.{_∙_, _≡_, ap, refl, sym}
-use native.Mathlib.Omega.{arith}
-use borrow.Author.Needs.{needs}
-use Rattle.kernel.proofs.Laws.Checked.{done-below, done-present, done-with, kept, went}
-use Rattle.kernel.proofs.Laws.Commanded.{node-is}
-use Rattle.kernel.proofs.Laws.Sized.{sized}
-use Rattle.kernel.proofs.Laws.Stored.{node-and-links-changed}
-use Rattle.kernel.specs.Fields.{isSound, layoutOf}
-use Rattle.model.specs.Commands.{Command}
-use Rattle.model.specs.Layouts.{tablesOf}
-use Rattle.model.specs.Records.{deadFor, restoredNode}
-use Rattle.model.specs.Tables.{nodeAt}
-use Rattle.kernel.proofs.Kernel.finish_cleanup.Statement.{statement}
+use mathlib.Core.{Bool.true, Path._∙_, Path._≡_, Path.refl, Path.sym}
+use Prim.Native.{Nat.ℕ}
+use borrow.{Author.Needs.needs}
+use Rattle.kernel.specs.{Fields.layoutOf, declared.Kernel.Kernel}
+use Rattle.model.specs.{Commands.Command, Layouts.tablesOf, Records.deadFor, Records.restoredNode, Tables.present}
+use Rattle.kernel.proofs.{Kernel.finish_cleanup.Statement.statement, Laws.Outcomes.Answered, Laws.Outcomes.done-as, Laws.Outcomes.done-below, Laws.Outcomes.done-kernel, Laws.Outcomes.done-present, Laws.Outcomes.kept, Laws.Sized.sized}
+use Rattle.layouts.proofs.{Laws.Anew.HoldsLinks, Laws.Anew.links-changed, Laws.Nodes.node-and-links, Laws.Sound.SoundKernel}
+use Rattle.sizes.specs.{Sizes.sizes}
 use Rattle.kernel.proofs.Kernel.finish_cleanup.Tie as tie
 
-check-finish-cleanup-requires : tie.Need-check-finish-cleanup-requires
-check-finish-cleanup-requires c κs = search needs
+-- what its row answered
+whole : (r : tie.After-check-node) → Answered (r .before .args .self) (Command.finishCleanup (r .before .args .id)) (r .check-node .result)
+whole r = record { arrays = sized (r .before .args .self) (r .before .good .0, tt); row = r .check-node .ensures }
 
-enum-told : tie.Need-enum-told
-enum-told c = search needs
+-- answered Done
+module _ (d : tie.After-enum-told) where
+  abbrev a : tie.After-check-node
+  a = d .before .before
 
-dead-links-requires : tie.Need-dead-links-requires
-dead-links-requires c κs = search needs
+  abbrev k : Kernel
+  k = a .before .args .self
 
-array-copy-out-node : tie.Need-array-copy-out-node
-array-copy-out-node c =
-    let s = c .before .before .before .before .before .before in
-    let k = s .args .self in
-    let z = sized k (s .good .0, tt) in
-    let a = c .before .before .before .before .before .check-finish-cleanup in
-    done-below k z (Command.finishCleanup (s .args .id)) (a .result) (a .ensures) (c .before .before .before .enum-told .given .1) (s .args .id) _ refl
+  abbrev id : ℕ
+  id = a .before .args .id
 
-mul-node : tie.Need-mul-node
-mul-node c = omega (arith, array-copy-out-node c)
+  K : SoundKernel sizes (layoutOf k)
+  K = done-kernel (whole a) (d .enum-told .given .1)
 
-restored-node-requires : tie.Need-restored-node-requires
-restored-node-requires c κs = search needs
+  here : present ((tablesOf (layoutOf k)) .nodes) id ≡ true
+  here = done-present (whole a) (d .enum-told .given .1) id refl
 
-array-set-from-nodes : tie.Need-array-set-from-nodes
-array-set-from-nodes c = array-copy-out-node (c .before .before)
-
-mul-nodes : tie.Need-mul-nodes
-mul-nodes c = omega (arith, array-set-from-nodes c)
-
-enum-told-2 : tie.Need-enum-told-2
-enum-told-2 c = search needs
+change-requires : tie.Need-change-requires
+change-requires c κs = let d = c .before .before .before in done-below (whole (a d)) (d .enum-told .given .1) (id d) refl
 
 returns : tie.Need-returns
 returns c =
-    let s = c .before .before .before .before .before .before .before .before in
-    let k = s .args .self in
-    let z = sized k (s .good .0, tt) in
-    let a = c .before .before .before .before .before .before .before .check-finish-cleanup in
-    let d = c .before .before .before .before .before .enum-told .given .1 in
-    let y : isSound k ≡ true = (went k z (Command.finishCleanup (s .args .id)) (a .result) (a .ensures) d) .0 in
-    let r : c .restored-node .result ≡ restoredNode (nodeAt ((tablesOf (layoutOf k)) .nodes) (s .args .id)) = c .restored-node .ensures ∙ ap restoredNode (sym (node-is k z true (sym y) refl (s .args .id))) in
-    done-with k z (Command.finishCleanup (s .args .id)) (a .result) (a .ensures) d _ (node-and-links-changed k z true (sym y) refl (s .args .id) _ (deadFor (s .args .id)) (done-present k z (Command.finishCleanup (s .args .id)) (a .result) (a .ensures) d (s .args .id) _ refl) ∙ rw (← r, ← c .before .before .before .dead-links .ensures))
+    let m = c .before .before in
+    let d = m .before .before in
+    let all-dead = links-changed (K d) (deadFor (id d)) in
+    let dead : HoldsLinks sizes _ (m .dead-links .result) _ = record { entries = all-dead .entries ∙ sym (m .dead-links .ensures); counted = all-dead .counted } in
+    done-as (whole (a d)) (d .enum-told .given .1) _ (node-and-links (K d) (id d) (here d) restoredNode (c .change .ensures) _ dead)
 
 returns-2 : tie.Need-returns-2
-returns-2 c =
-    let s = c .before .before .before in
-    let k = s .args .self in
-    let z = sized k (s .good .0, tt) in
-    let a = c .before .before .check-finish-cleanup in
-    kept k z (Command.finishCleanup (s .args .id)) (a .result) (a .ensures) _ (c .enum-told2 .given .1)
+returns-2 c = kept (whole (c .before .before)) (c .enum-told2 .given .1)
 
 pub finish-cleanup-spec : {M : Type 1} → statement M
 finish-cleanup-spec =
     tie.close
     (tie.spec
-    check-finish-cleanup-requires
-    enum-told
-    dead-links-requires
-    mul-node
-    array-copy-out-node
-    restored-node-requires
-    mul-nodes
-    array-set-from-nodes
-    enum-told-2
+    (λ c κs. search needs)  -- check-node-requires
+    (λ c. search needs)  -- enum-told
+    (λ c κs. search needs)  -- dead-links-requires
+    change-requires
+    (λ c. search needs)  -- enum-told-2
     returns
     returns-2)

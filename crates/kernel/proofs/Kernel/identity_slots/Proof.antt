@@ -1,20 +1,23 @@
 -- `kernel::Kernel::identity_slots` meets its contract.
-use mathlib.Core.Path.{_∙_, sym}
-use borrow.Author.Needs.{needs}
-use Rattle.kernel.proofs.Laws.Observed.{ask-sound, ask-unsound, node-count-is}
-use Rattle.kernel.proofs.Laws.Sized.{sized}
-use Rattle.model.specs.Observers.{identitySlots}
-use Rattle.kernel.proofs.Kernel.identity_slots.Statement.{statement}
+use mathlib.Core.{Path.sym}
+use borrow.{Author.Needs.needs}
+use Rattle.kernel.proofs.{Kernel.identity_slots.Statement.statement, Laws.Observers.asks-sound, Laws.Observers.asks-unsound, Laws.Sized.sized}
+use Rattle.layouts.proofs.{Laws.Sound.node-count-is, Laws.Sound.tested-sound}
+use Rattle.model.specs.{Observers.identitySlots}
 use Rattle.kernel.proofs.Kernel.identity_slots.Tie as tie
 
-sound-requires : tie.Need-sound-requires
-sound-requires c κs = search needs
-
 returns : tie.Need-returns
-returns c = sym (ask-unsound (c .before .before .args .self) (c .before .sound .result) 0 identitySlots (c .before .sound .ensures) (c .if1 .taken))
+returns c = asks-unsound (c .before .before .args .self) 0 identitySlots (c .before .sound .ensures) (c .if1 .taken)
 
 returns-2 : tie.Need-returns-2
-returns-2 c = sym (ask-sound (c .before .before .args .self) (sized (c .before .before .args .self) (c .before .before .good .0, tt)) (c .before .sound .result) (c .before .sound .ensures) (c .if1 .left) 0 identitySlots ∙ node-count-is (c .before .before .args .self) (sized (c .before .before .args .self) (c .before .before .good .0, tt)) (c .before .sound .result) (c .before .sound .ensures) (c .if1 .left))
+returns-2 c =
+    let K = tested-sound (sized (c .before .before .args .self) (c .before .before .good .0, tt)) (c .before .sound .ensures) (c .if1 .left) in
+    asks-sound K 0 identitySlots (sym (node-count-is K))
 
 pub identity-slots-spec : {M : Type 1} → statement M
-identity-slots-spec = tie.close (tie.spec sound-requires returns returns-2)
+identity-slots-spec =
+    tie.close
+    (tie.spec
+    (λ c κs. search needs)  -- sound-requires
+    returns
+    returns-2)

@@ -1,116 +1,88 @@
 -- `kernel::Kernel::insert` meets its contract: what check_insert answers decides it.
-use mathlib.Core.Path.{ap, sym}
-use native.Mathlib.Omega.{arith}
-use borrow.Author.Needs.{needs}
-use Rattle.kernel.proofs.Laws.Inserted.{declarations-padded, insert-done, insert-refused, insert-room, more-padded}
-use Rattle.kernel.specs.Outcomes.{insertOutcome}
-use Rattle.kernel.proofs.Kernel.insert.Statement.{statement}
+use mathlib.Core.{Path._∙_, Path._≡_, Path.ap, Path.refl, Path.sym}
+use native.Mathlib.{Omega.arith}
+use borrow.{Author.Needs.needs}
+use Rattle.kernel.specs.{Fields.layoutOf, Outcomes.answerOf, Outcomes.insertOutcome, declared.Kernel.Kernel}
+use Rattle.kernel.proofs.{Kernel.insert.Statement.statement, Laws.Outcomes.inserts, Laws.Rows.insertion-row, Laws.Sized.list-sized, Laws.Sized.sized}
+use Rattle.layouts.proofs.{Laws.Declarations.Insertable, Laws.Declarations.insertable, Laws.Declarations.inserted-laid, Laws.Declarations.more-padded, Laws.Rows.done-row, Laws.Rows.done-sound, Laws.Rows.refused-whole, Laws.Sound.declarations-laid}
+use Rattle.model.proofs.{Laws.Refusals.Passed}
+use Rattle.model.specs.{Commands.Command, Insertion.insertTests, Layouts.Sized, Layouts.tablesOf, Refusals.Tests, Tables.Tables}
+use Rattle.sizes.specs.{Sizes.sizes}
 use Rattle.kernel.proofs.Kernel.insert.Tie as tie
 
-check-insert-requires : tie.Need-check-insert-requires
-check-insert-requires c κs = search needs
+-- what check_insert answered, as insert's row
+module _ (a : tie.After-check-insert) where
+  abbrev s : tie.Start
+  s = a .before
 
-enum-known-checked : tie.Need-enum-known-checked
-enum-known-checked c = search needs
+  abbrev k : Kernel
+  k = s .args .self
+
+  abbrev command : Command
+  command = Command.insert (s .args .parent) (s .args .dependencies) (s .args .provisions)
+
+  abbrev row : Tables → Tests
+  row T = insertTests sizes T (s .args .parent) (s .args .dependencies) (s .args .provisions)
+
+  z : Sized sizes (layoutOf k)
+  z = sized k (s .good .0, tt)
+
+  answered : a .check-insert .result ≡ answerOf k row
+  answered = a .check-insert .ensures ∙ insertion-row k (s .args .parent) (s .args .dependencies) (s .args .provisions)
+
+-- Done: room for the component and its declarations
+module _ (d : tie.After-enum-told) where
+  abbrev at : tie.After-check-insert
+  at = d .before .before
+
+  passed : Passed (row at (tablesOf (layoutOf (k at))))
+  passed = done-row (z at) (row at) _ (answered at) (d .enum-told .given .1)
+
+  I : Insertable sizes (layoutOf (k at)) (s at .args .dependencies) (s at .args .provisions)
+  I =
+      let K = done-sound (z at) (row at) _ (answered at) (d .enum-told .given .1) in
+      insertable K (s at .args .parent) (list-sized (s at .args .dependencies) (s at .good .1 .1 .0, tt)) (list-sized (s at .args .provisions) (s at .good .1 .1 .1 .0, tt)) passed
+
+-- the dependencies behind the declarations
+module _ (f : tie.After-append-ports) where
+  abbrev e : tie.After-enum-told
+  e = f .before .before
 
 returns : tie.Need-returns
-returns c =
-    let s = c .before .before .before .before in
-    let ci = c .before .before .before .check-insert in
-    sym (ap insertOutcome (insert-refused (s .args .self) (s .args .parent) (s .args .dependencies) (s .args .provisions) (s .good) (ci .result) (ci .ensures) _ (c .before .checked .given .1)))
-
-enum-told : tie.Need-enum-told
-enum-told c = search needs
+returns c = let a = c .before .before .before in sym (ap insertOutcome (refused-whole (z a) (command a) _ (answered a) (c .before .checked .given .1)))
 
 append-ports-requires : tie.Need-append-ports-requires
-append-ports-requires c κs =
-    let s = c .before .before .before .before in
-    let ci = c .before .before .before .check-insert in
-    let done = c .before .enum-told .given .1 in
-    let o = insert-room (s .args .self) (s .args .parent) (s .args .dependencies) (s .args .provisions) (s .good) (ci .result) (ci .ensures) done in
-    (o .dependencies, omega (arith, o .declarations), declarations-padded (s .args .self) (s .args .parent) (s .args .dependencies) (s .args .provisions) (s .good) (ci .result) (ci .ensures) done)
-
-add-append-ports : tie.Need-add-append-ports
-add-append-ports c =
-    let s = c .before .before .before .before .before in
-    let ci = c .before .before .before .before .check-insert in
-    let done = c .before .before .enum-told .given .1 in
-    let o = insert-room (s .args .self) (s .args .parent) (s .args .dependencies) (s .args .provisions) (s .good) (ci .result) (ci .ensures) done in
-    omega (arith, o .declarations)
+unfolding tablesOf
+append-ports-requires c κs = let i = I (c .before) in (i .short .0 .within, omega (arith, i .sum), sym (declarations-laid (i .kernel)))
 
 append-ports-requires-2 : tie.Need-append-ports-requires-2
-append-ports-requires-2 c κs =
-    let s = c .before .before .before .before .before in
-    let ci = c .before .before .before .before .check-insert in
-    let done = c .before .before .enum-told .given .1 in
-    let o = insert-room (s .args .self) (s .args .parent) (s .args .dependencies) (s .args .provisions) (s .good) (ci .result) (ci .ensures) done in
-    (o .provisions, o .declarations, more-padded (s .args .self) (s .args .parent) (s .args .dependencies) (s .args .provisions) (s .good) (ci .result) (ci .ensures) done _ _ (c .append-ports .ensures))
-
-add-self : tie.Need-add-self
-add-self c =
-    let s = c .before .before .before .before .before .before in
-    let ci = c .before .before .before .before .before .check-insert in
-    let done = c .before .before .before .enum-told .given .1 in
-    let o = insert-room (s .args .self) (s .args .parent) (s .args .dependencies) (s .args .provisions) (s .good) (ci .result) (ci .ensures) done in
-    omega (arith, o .declarations)
-
-add-self-2 : tie.Need-add-self-2
-add-self-2 c =
-    let s = c .before .before .before .before .before .before in
-    let ci = c .before .before .before .before .before .check-insert in
-    let done = c .before .before .before .enum-told .given .1 in
-    let o = insert-room (s .args .self) (s .args .parent) (s .args .dependencies) (s .args .provisions) (s .good) (ci .result) (ci .ensures) done in
-    omega (arith, o .declarations)
-
-new-node-requires : tie.Need-new-node-requires
-new-node-requires c κs = search needs
-
-mul-nodes : tie.Need-mul-nodes
-mul-nodes c =
-    let s = c .before .before .before .before .before .before .before .before in
-    let ci = c .before .before .before .before .before .before .before .check-insert in
-    let done = c .before .before .before .before .before .enum-told .given .1 in
-    let o = insert-room (s .args .self) (s .args .parent) (s .args .dependencies) (s .args .provisions) (s .good) (ci .result) (ci .ensures) done in
-    omega (arith, o .node)
-
-array-set-from-nodes : tie.Need-array-set-from-nodes
-array-set-from-nodes c =
-    let s = c .before .before .before .before .before .before .before .before in
-    let ci = c .before .before .before .before .before .before .before .check-insert in
-    let done = c .before .before .before .before .before .enum-told .given .1 in
-    let o = insert-room (s .args .self) (s .args .parent) (s .args .dependencies) (s .args .provisions) (s .good) (ci .result) (ci .ensures) done in
-    omega (arith, o .node)
-
-add-self-3 : tie.Need-add-self-3
-add-self-3 c =
-    let s = c .before .before .before .before .before .before .before .before in
-    let ci = c .before .before .before .before .before .before .before .check-insert in
-    let done = c .before .before .before .before .before .enum-told .given .1 in
-    let o = insert-room (s .args .self) (s .args .parent) (s .args .dependencies) (s .args .provisions) (s .good) (ci .result) (ci .ensures) done in
-    omega (arith, o .node)
+append-ports-requires-2 c κs = let i = I (e c) in (i .short .1 .within, i .sum, more-padded (i .kernel) (i .short) _ (c .append-ports .ensures))
 
 returns-2 : tie.Need-returns-2
 returns-2 c =
-    let s = c .before .before .before .before .before .before .before .before in
-    let ci = c .before .before .before .before .before .before .before .check-insert in
-    let done = c .before .before .before .before .before .enum-told .given .1 in
-    sym (insert-done (s .args .self) (s .args .parent) (s .args .dependencies) (s .args .provisions) (s .good) (ci .result) (ci .ensures) done (c .new-node .result) (c .before .before .before .append-ports .result) (c .before .before .append-ports2 .result) (c .new-node .ensures) (c .before .before .before .append-ports .ensures) (c .before .before .append-ports2 .ensures))
+    let g = c .before .before in
+    let f = g .before in
+    let d = e f in
+    let i = I d in
+    let o = s (at d) .args in
+    let laid = inserted-laid (i .kernel) (i .short) _ (f .append-ports .ensures) (g .append-ports2 .ensures) refl (i .node) (o .parent) (c .new-node .ensures) in
+    inserts (i .kernel) (o .parent) (o .dependencies) (o .provisions) (passed d) _ laid
 
 pub insert-spec : {M : Type 1} → statement M
 insert-spec =
     tie.close
     (tie.spec
-    check-insert-requires
-    enum-known-checked
+    (λ c κs. search needs)  -- check-insert-requires
+    (λ c. search needs)  -- enum-known-checked
     returns
-    enum-told
+    (λ c. search needs)  -- enum-told
     append-ports-requires
-    add-append-ports
+    (λ c. omega (arith, I (e c) .sum))  -- add-append-ports
     append-ports-requires-2
-    add-self
-    add-self-2
-    new-node-requires
-    mul-nodes
-    array-set-from-nodes
-    add-self-3
+    (λ c. omega (arith, I (e (c .before)) .sum))  -- add-self
+    (λ c. omega (arith, I (e (c .before)) .sum))  -- add-self-2
+    (λ c κs. search needs)  -- new-node-requires
+    (λ c. omega (arith, I (e (c .before .before .before)) .node))  -- mul-nodes
+    (λ c. I (e (c .before .before .before)) .node)  -- array-set-from-nodes
+    (λ c. omega (arith, I (e (c .before .before .before)) .node))  -- add-self-3
     returns-2)

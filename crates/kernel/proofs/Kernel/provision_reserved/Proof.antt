@@ -1,27 +1,30 @@
 -- `kernel::Kernel::provision_reserved` meets its contract.
-use mathlib.Core.Path.{_∙_, sym}
-use mathlib.Core.Bool.{false}
-use borrow.Author.Needs.{needs}
-use Rattle.kernel.proofs.Laws.Observed.{ask-sound, ask-unsound}
-use Rattle.kernel.proofs.Laws.Sized.{sized}
-use Rattle.model.specs.Layouts.{tablesOf}
-use Rattle.model.specs.Observers.{provisionReserved}
-use Rattle.kernel.proofs.Kernel.provision_reserved.Statement.{statement}
+use mathlib.Core.{Bool.Bool, Bool.false}
+use borrow.{Author.Needs.needs}
+use Rattle.kernel.proofs.{Kernel.provision_reserved.Statement.statement, Laws.Observers.asks-sound, Laws.Observers.asks-unsound, Laws.Sized.sized}
+use Rattle.layouts.proofs.{Laws.Sound.tested-sound}
+use Rattle.model.specs.{Layouts.tablesOf, Observers.provisionReserved, Tables.Tables}
 use Rattle.kernel.proofs.Kernel.provision_reserved.Tie as tie
 
-sound-requires : tie.Need-sound-requires
-sound-requires c κs = search needs
+-- what is asked of the tables
+abbrev question : tie.Start → Tables → Bool
+question s T = provisionReserved T (s .args .owner) (s .args .port)
 
 returns : tie.Need-returns
-returns c = sym (ask-unsound (c .before .before .args .self) (c .before .sound .result) false (λ T. provisionReserved T (c .before .before .args .owner) (c .before .before .args .port)) (c .before .sound .ensures) (c .if1 .taken))
-
-declares-in-requires : tie.Need-declares-in-requires
-declares-in-requires c κs = search needs
+returns c = let s = c .before .before in asks-unsound (s .args .self) false (question s) (c .before .sound .ensures) (c .if1 .taken)
 
 returns-2 : tie.Need-returns-2
 unfolding tablesOf
-returns-2 c = c .declares-in .ensures ∙ sym (ask-sound (c .before .before .before .before .args .self) (sized (c .before .before .before .before .args .self) (c .before .before .before .before .good .0, tt)) (c .before .before .before .sound .result) (c .before .before .before .sound .ensures) (c .before .before .if1 .left) false (λ T. provisionReserved T (c .before .before .before .before .args .owner) (c .before .before .before .before .args .port)))
+returns-2 c =
+    let e = c .before .before in
+    let s = e .before .before in
+    asks-sound (tested-sound (sized (s .args .self) (s .good .0, tt)) (e .before .sound .ensures) (e .if1 .left)) false (question s) (c .declares-in .ensures)
 
 pub provision-reserved-spec : {M : Type 1} → statement M
 provision-reserved-spec =
-    tie.close (tie.spec sound-requires returns declares-in-requires returns-2)
+    tie.close
+    (tie.spec
+    (λ c κs. search needs)  -- sound-requires
+    returns
+    (λ c κs. search needs)  -- declares-in-requires
+    returns-2)

@@ -1,42 +1,11 @@
 -- When a command is accepted, in the words of the original's contracts.
-use mathlib.Core.Path.{_∙_, _≡_, ap, refl, sym}
-use mathlib.Core.Bool.{Bool, _&&_, _||_, false, not, true}
-use mathlib.Core.List.{List·Memᴰ, [], _∷_}
-use mathlib.Core.Option.{Option, none, some}
-use mathlib.Core.Logic.{_↔_, _⊎_, inl, inr}
-use Prim.Native.Nat.{_+_, _<_, _≤_, ℕ}
-use native.Mathlib.Omega.{arith}
-use lib.Dec.{eqb}
-use lib.ListN.{length}
-use borrow.Author.Tests.{eq-eqb, eqb-true, le-ltb, leb-false, leb-true, ltb-false}
-use Rattle.model.specs.declared.Error.{Error}
-use Rattle.model.specs.declared.Link.{Link}
-use Rattle.model.specs.declared.Node.{Node}
-use Rattle.model.specs.declared.Parent.{Parent}
-use Rattle.model.specs.declared.Port.{Port}
-use Rattle.model.specs.declared.PortList.{PortList}
-use Rattle.model.proofs.Laws.Booleans.{and-i, and-l, and-r, clash, not-f, not-t, or-f-l, or-f-r}
-use Rattle.model.proofs.Laws.Entry.{refuted}
-use Rattle.model.proofs.Laws.Lists.{any-in, in-at, none-in}
-use Rattle.model.proofs.Laws.Phases.{loading-running, running-installed}
-use Rattle.model.proofs.Laws.Refusals.{Passed, skip, step-cases}
-use Rattle.model.proofs.Theorems.Points.{at-node}
-use Rattle.model.proofs.Theorems.UpdateNode.{no-child}
-use Rattle.model.proofs.Theorems.Upstream.Frames.{bindings-kept}
-use Rattle.model.proofs.Theorems.Upstream.Observed.{Coherent, coherent-target}
-use Rattle.model.proofs.Theorems.Upstream.Replies.{accepts, never-refused-with}
-use Rattle.model.specs.Commands.{Command, settle, step}
-use Rattle.model.specs.Insertion.{checkInsert, insertTests, inserted, parentPresent}
-use Rattle.model.specs.Interface.{distinct, listed, taken, tooLong}
-use Rattle.model.specs.Lifecycle.{beginCleanupTests, checkIteration, finishCleanupTests, finished, iterationTests, leaveIfChangedTests, leaveTests, phaseAt, relies, removeTests}
-use Rattle.model.specs.Lists.{all, any, isNone}
-use Rattle.model.specs.Observers.{cleanupStarted}
-use Rattle.model.specs.Records.{hasParent, isChildOf, isInactive, isLoading, isRunning, isUnloading}
-use Rattle.model.specs.Refusals.{Reply, accepted, first, orElse}
-use Rattle.model.specs.Resolution.{target}
-use Rattle.model.specs.Sizes.{Sizes, listLimit}
-use Rattle.model.specs.Soundness.{sound}
-use Rattle.model.specs.Tables.{Tables, nodeAt, present}
+use mathlib.Core.{Bool.Bool, Bool._&&_, Bool._||_, Bool.false, Bool.not, Bool.true, List.List·Memᴰ, List.[], List._∷_, Logic._↔_, Logic._⊎_, Logic.inl, Logic.inr, Option.Option, Option.none, Option.some, Path._∙_, Path._≡_, Path.ap, Path.refl, Path.sym}
+use Prim.Native.{Nat._+_, Nat._<_, Nat._≤_, Nat.ℕ}
+use native.Mathlib.{Omega.arith}
+use lib.{Dec.eqb, ListN.length}
+use borrow.{Author.Tests.eq-eqb, Author.Tests.eqb-true, Author.Tests.le-ltb, Author.Tests.leb-false, Author.Tests.leb-true, Author.Tests.ltb-false}
+use Rattle.model.specs.{Commands.Command, Commands.settle, Commands.step, Insertion.checkInsert, Insertion.insertTests, Insertion.inserted, Insertion.parentPresent, Interface.distinct, Interface.listed, Interface.taken, Interface.tooLong, Lifecycle.beginCleanupTests, Lifecycle.checkIteration, Lifecycle.finishCleanupTests, Lifecycle.finished, Lifecycle.iterationTests, Lifecycle.leaveIfChangedTests, Lifecycle.leaveTests, Lifecycle.phaseAt, Lifecycle.relies, Lifecycle.removeTests, Lists.all, Lists.any, Lists.isNone, Observers.cleanupStarted, Records.hasParent, Records.isChildOf, Records.isInactive, Records.isLoading, Records.isRunning, Records.isUnloading, Records.parentIn, Records.providerIn, Refusals.Reply, Refusals.accepted, Refusals.first, Refusals.orElse, Resolution.target, Sizes.Sizes, Sizes.listLimit, Soundness.sound, Tables.Tables, Tables.nodeAt, Tables.present, declared.Error.Error, declared.Parent.Parent, declared.Port.Port, declared.PortList.PortList, declared.records.Link.Link, declared.records.Node.Node}
+use Rattle.model.proofs.{Laws.Booleans.and-i, Laws.Booleans.and-l, Laws.Booleans.and-r, Laws.Booleans.clash, Laws.Booleans.not-f, Laws.Booleans.not-t, Laws.Booleans.or-f-l, Laws.Booleans.or-f-r, Laws.Entry.refuted, Laws.Lists.any-in, Laws.Lists.in-at, Laws.Lists.none-in, Laws.Phases.loading-running, Laws.Phases.running-installed, Laws.Refusals.Passed, Laws.Refusals.skip, Laws.Refusals.step-cases, Theorems.Points.at-node, Theorems.UpdateNode.no-child, Theorems.Upstream.Frames.bindings-kept, Theorems.Upstream.Observed.Coherent, Theorems.Upstream.Observed.coherent-target, Theorems.Upstream.Replies.accepts, Theorems.Upstream.Replies.never-refused-with}
 
 -- ---- retire, leave, leave_if_changed
 
@@ -44,6 +13,9 @@ only : (b : Bool) (x e : Error) → first ((b, x) ∷ []) ≡ some e → e ≡ x
 unfolding first
 only true x e f = cc
 only false x e f = let z : _≡_ {A = ℕ} 0 1 = cc in absurd (omega arith)
+
+abbrev DoneOrChanged : Reply → Type 0
+DoneOrChanged r = (r ≡ Reply.done) ⊎ (r ≡ Reply.refused Error.Changed)
 
 module _ (S : Sizes) (T : Tables) (id : ℕ) where
   pub retire-accepts : (accepted ((step S T (Command.retire id)) .reply) ≡ true) ↔ (present (T .nodes) id ≡ true)
@@ -56,12 +28,20 @@ module _ (S : Sizes) (T : Tables) (id : ℕ) where
   unfolding all
   leave-not-changed = never-refused-with S T (Command.leave id) Error.Changed refl
 
-  pub leave-if-changed-accepts : (accepted ((step S T (Command.leaveIfChanged id)) .reply) ≡ true) ↔ ((present (T .nodes) id ≡ true) × (isRunning (phaseAt T id) ≡ true) × (isNone (target T id) ≡ true))
-  leave-if-changed-accepts = (λ h. let p : Passed (leaveIfChangedTests T id) = accepts S T (Command.leaveIfChanged id) .0 h in (not-f _ (p .0), not-f _ (p .1 .0), not-f _ (p .1 .1 .0)), λ (t, r, n). accepts S T (Command.leaveIfChanged id) .1 (rw t, (rw r, (rw n, tt))))
+  abbrev leavingIfChanged : Command
+  leavingIfChanged = Command.leaveIfChanged id
+
+  pub leave-if-changed-accepts : (accepted ((step S T leavingIfChanged) .reply) ≡ true) ↔ ((present (T .nodes) id ≡ true) × (isRunning (phaseAt T id) ≡ true) × (isNone (target T id) ≡ true))
+  leave-if-changed-accepts = (
+    λ h. let p : Passed (leaveIfChangedTests T id) = accepts S T leavingIfChanged .0 h in (not-f _ (p .0), not-f _ (p .1 .0), not-f _ (p .1 .1 .0)),
+    λ (t, r, n). accepts S T leavingIfChanged .1 (rw t, (rw r, (rw n, tt))),
+  )
 
   -- of a running component: done, or refused with 6
-  pub leave-if-changed-replies : present (T .nodes) id ≡ true → isRunning (phaseAt T id) ≡ true → ((step S T (Command.leaveIfChanged id)) .reply ≡ Reply.done) ⊎ ((step S T (Command.leaveIfChanged id)) .reply ≡ Reply.refused Error.Changed)
-  leave-if-changed-replies t r = step-cases (λ o. (o .reply ≡ Reply.done) ⊎ (o .reply ≡ Reply.refused Error.Changed)) S T (Command.leaveIfChanged id) (λ e f. inr (ap Reply.refused (only (not (isNone (target T id))) Error.Changed e (sym rest ∙ f)))) (λ p. inl refl)
+  pub leave-if-changed-replies : present (T .nodes) id ≡ true → isRunning (phaseAt T id) ≡ true → DoneOrChanged ((step S T leavingIfChanged) .reply)
+  leave-if-changed-replies t r = step-cases (λ o. DoneOrChanged (o .reply)) S T leavingIfChanged
+      (λ e f. inr (ap Reply.refused (only (not (isNone (target T id))) Error.Changed e (sym rest ∙ f))))
+      (λ p. inl refl)
     where
       rest : first (leaveIfChangedTests T id) ≡ first ((not (isNone (target T id)), Error.Changed) ∷ [])
       rest = skip _ _ _ (rw (t, present)) ∙ skip _ _ _ (rw r)
@@ -76,7 +56,10 @@ changed-row false false false h = let z : _≡_ {A = ℕ} 0 1 = cc in absurd (om
 
 pub leave-changed-coherent : (S : Sizes) (T : Tables) (id : ℕ) → sound S T ≡ true → (step S T (Command.leaveIfChanged id)) .reply ≡ Reply.refused Error.Changed → Coherent T id
 leave-changed-coherent S T id s = step-cases (λ o. o .reply ≡ Reply.refused Error.Changed → Coherent T id) S T (Command.leaveIfChanged id)
-    (λ e f q. let d : e ≡ Error.Changed = cc in let (x, y, z) = changed-row (not (present (T .nodes) id)) (not (isRunning (phaseAt T id))) (not (isNone (target T id))) (rw d at f) in coherent-target S T s id (running-installed (phaseAt T id) (not-f _ y)) .0 (not-t _ z))
+    (λ e f q.
+    let d : e ≡ Error.Changed = cc in
+    let (x, y, z) = changed-row (not (present (T .nodes) id)) (not (isRunning (phaseAt T id))) (not (isNone (target T id))) (rw d at f) in
+    coherent-target S T s id (running-installed (phaseAt T id) (not-f _ y)) .0 (not-t _ z))
     (λ p q. clash true refl (sym (ap accepted (sym q))))
 
 -- ---- begin_cleanup, finish_cleanup, remove
@@ -85,13 +68,13 @@ pub record CleanupEnabled (T : Tables) (id : ℕ) : Type 0 where
   pub there : present (T .nodes) id ≡ true
   pub unloading : isUnloading (phaseAt T id) ≡ true
   pub not-yet : (nodeAt (T .nodes) id) .restoring ≡ false
-  pub unrelied : (l : Link) → List·Memᴰ l (T .links) → l .live ≡ true → l .binding .provider ≡ id → ⊥
+  pub unrelied : (l : Link) → List·Memᴰ l (T .links) → l .live ≡ true → providerIn l ≡ id → ⊥
 
 pub record RemovalEnabled (T : Tables) (id : ℕ) : Type 0 where
   pub there : present (T .nodes) id ≡ true
   pub is-retired : (nodeAt (T .nodes) id) .retired ≡ true
   pub inactive : isInactive (phaseAt T id) ≡ true
-  pub childless : (i : ℕ) → present (T .nodes) i ≡ true → (nodeAt (T .nodes) i) .parent ≡ Parent.Of id → ⊥
+  pub childless : (i : ℕ) → present (T .nodes) i ≡ true → parentIn (nodeAt (T .nodes) i) ≡ Parent.Of id → ⊥
 
 has-parent-is : (id : ℕ) (q : Parent) → hasParent id q ≡ true → q ≡ Parent.Of id
 has-parent-is id Parent.None h = clash false h refl
@@ -104,23 +87,38 @@ module _ (S : Sizes) (T : Tables) (id : ℕ) where
     λ h.
         let p : Passed (beginCleanupTests T id) = accepts S T (Command.beginCleanup id) .0 h in
         let u : isUnloading (phaseAt T id) && not ((nodeAt (T .nodes) id) .restoring) ≡ true = not-f _ (p .1 .0) in
-        record { there = not-f _ (p .0); unloading = and-l (isUnloading (phaseAt T id)) _ u; not-yet = not-t _ (and-r (isUnloading (phaseAt T id)) _ u); unrelied = λ l m v e. clash {A = ⊥} _ (and-i (l .live) (eqb (l .binding .provider) id) v (eq-eqb _ _ e)) (none-in (relies id) m (p .1 .1 .0)) },
-    λ k. accepts S T (Command.beginCleanup id) .1 (rw (k .there), (rw (k .unloading, k .not-yet), (refuted _ (λ h. let (l, m, e) = any-in (relies id) (T .links) h in k .unrelied l m (and-l (l .live) _ e) (eqb-true _ _ (and-r (l .live) _ e))), tt))),
+        record {
+          there = not-f _ (p .0);
+          unloading = and-l (isUnloading (phaseAt T id)) _ u;
+          not-yet = not-t _ (and-r (isUnloading (phaseAt T id)) _ u);
+          unrelied = λ l m v e. clash {A = ⊥} _ (and-i (l .live) (eqb (providerIn l) id) v (eq-eqb _ _ e)) (none-in (relies id) m (p .1 .1 .0));
+        },
+    λ k.
+        let none = refuted _ (λ h. let (l, m, e) = any-in (relies id) (T .links) h in k .unrelied l m (and-l (l .live) _ e) (eqb-true _ _ (and-r (l .live) _ e))) in
+        accepts S T (Command.beginCleanup id) .1 (rw (k .there), (rw (k .unloading, k .not-yet), (none, tt))),
   )
 
   -- restoration_guarded, with cleanup-restoring: no live link has the component as provider, before and after
-  pub cleanup-guarded : accepted ((step S T (Command.beginCleanup id)) .reply) ≡ true → (l : Link) → List·Memᴰ l ((step S T (Command.beginCleanup id)) .tables .links) → l .live ≡ true → l .binding .provider ≡ id → ⊥
+  pub cleanup-guarded : accepted ((step S T (Command.beginCleanup id)) .reply) ≡ true → (l : Link) → List·Memᴰ l ((step S T (Command.beginCleanup id)) .tables .links) → l .live ≡ true → providerIn l ≡ id → ⊥
   cleanup-guarded h l m = begin-cleanup-accepts .0 h .unrelied l (rw (bindings-kept S T (Command.beginCleanup id) refl) at m)
 
   pub finish-cleanup-accepts : (accepted ((step S T (Command.finishCleanup id)) .reply) ≡ true) ↔ (cleanupStarted T id ≡ true)
-  finish-cleanup-accepts = (λ h. let p : Passed (finishCleanupTests T id) = accepts S T (Command.finishCleanup id) .0 h in and-i (present (T .nodes) id) _ (not-f _ (p .0)) (not-f _ (p .1 .0)), λ r. accepts S T (Command.finishCleanup id) .1 (rw (and-l (present (T .nodes) id) _ r), (rw (and-r (present (T .nodes) id) _ r), tt)))
+  finish-cleanup-accepts = (
+    λ h. let p : Passed (finishCleanupTests T id) = accepts S T (Command.finishCleanup id) .0 h in and-i (present (T .nodes) id) _ (not-f _ (p .0)) (not-f _ (p .1 .0)),
+    λ r. accepts S T (Command.finishCleanup id) .1 (rw (and-l (present (T .nodes) id) _ r), (rw (and-r (present (T .nodes) id) _ r), tt)),
+  )
 
   pub remove-accepts : (accepted ((step S T (Command.remove id)) .reply) ≡ true) ↔ RemovalEnabled T id
   remove-accepts = (
     λ h.
         let p : Passed (removeTests T id) = accepts S T (Command.remove id) .0 h in
         let u : (nodeAt (T .nodes) id) .retired && isInactive (phaseAt T id) ≡ true = not-f _ (p .1 .0) in
-        record { there = not-f _ (p .0); is-retired = and-l ((nodeAt (T .nodes) id) .retired) _ u; inactive = and-r ((nodeAt (T .nodes) id) .retired) _ u; childless = λ i a e. no-child T id i (p .1 .1 .0) a e },
+        record {
+          there = not-f _ (p .0);
+          is-retired = and-l ((nodeAt (T .nodes) id) .retired) _ u;
+          inactive = and-r ((nodeAt (T .nodes) id) .retired) _ u;
+          childless = λ i a e. no-child T id i (p .1 .1 .0) a e;
+        },
     λ k. accepts S T (Command.remove id) .1 (
       rw (k .there),
       (
@@ -129,7 +127,8 @@ module _ (S : Sizes) (T : Tables) (id : ℕ) where
           refuted _ (λ h.
               let (n, m, e) = any-in (isChildOf id) (T .nodes) h in
               let (i, a) = in-at m in
-              k .childless i (ap (λ (z : Node). z .present) (at-node (T .nodes) i n a) ∙ and-l (n .present) _ e) (ap (λ (z : Node). z .parent) (at-node (T .nodes) i n a) ∙ has-parent-is id (n .parent) (and-r (n .present) _ e))),
+              let is = at-node (T .nodes) i n a in
+              k .childless i (ap (λ (z : Node). z .present) is ∙ and-l (n .present) _ e) (ap parentIn is ∙ has-parent-is id (parentIn n) (and-r (n .present) _ e))),
           tt,
         ),
       ),
@@ -186,7 +185,13 @@ module _ (S : Sizes) (T : Tables) (q : Parent) (ds ps : PortList) where
           slots = leb-false _ _ (p .1 .0);
           space = ltb-false _ _ (p .1 .1 .1 .1 .0);
         },
-    λ k. accepts S T (Command.insert q ds ps) .1 (rw (le-ltb listLimit (ds .count) (k .dependencies-short), le-ltb listLimit (ps .count) (k .provisions-short)), (refuted _ (λ x. let y : S .identities ≤ length (T .nodes) = leb-true _ _ x in omega (arith, k .slots)), (rw (k .parent), (rw (k .dependencies-distinct, k .provisions-distinct, refuted (any (taken T) (listed ps)) (λ x. let (p, m, e) = any-in (taken T) (listed ps) x in clash {A = ⊥} _ e (k .admissible p m))), (le-ltb _ _ (k .space), tt))))),
+    λ k.
+        let slot = refuted _ (λ x. let y : S .identities ≤ length (T .nodes) = leb-true _ _ x in omega (arith, k .slots)) in
+        let free = refuted (any (taken T) (listed ps)) (λ x. let (p, m, e) = any-in (taken T) (listed ps) x in clash {A = ⊥} _ e (k .admissible p m)) in
+        accepts S T (Command.insert q ds ps) .1 (
+          rw (le-ltb listLimit (ds .count) (k .dependencies-short), le-ltb listLimit (ps .count) (k .provisions-short)),
+          (slot, (rw (k .parent), (rw (k .dependencies-distinct, k .provisions-distinct, free), (le-ltb _ _ (k .space), tt)))),
+        ),
   )
 
   -- check_insert accepts what insert accepts

@@ -1,35 +1,10 @@
 -- begin: when it is accepted, and that the component is then coherent, with what target gave committed.
-use mathlib.Core.Path.{_∙_, _≡_, ap, refl, subst, sym}
-use mathlib.Core.Bool.{false, not, true}
-use mathlib.Core.List.{List, List·Memᴰ, List·Memᴰ·append-cases, Memᴰ·append-right, _++_, map}
-use mathlib.Core.Option.{some}
-use mathlib.Core.Logic.{_↔_, _⊎_, inl, inr}
-use Prim.Native.Nat.{_+_, _≤_, ℕ}
-use lib.ListN.{length, set}
-use borrow.Author.Tests.{eqb-false, le-ltb, ltb-false, ne-eqb}
-use Rattle.model.specs.declared.Binding.{Binding}
-use Rattle.model.specs.declared.Link.{Link}
-use Rattle.model.specs.declared.Node.{Node}
-use Rattle.model.specs.declared.Port.{Port}
-use Rattle.model.proofs.Laws.Booleans.{clash, not-f}
-use Rattle.model.proofs.Laws.Committed.{committed-append, committed-idle, fresh-mine}
-use Rattle.model.proofs.Laws.Facts.{facts}
-use Rattle.model.proofs.Laws.Lists.{in-map, is-some, map-in}
-use Rattle.model.proofs.Laws.Nodes.{present-lt}
-use Rattle.model.proofs.Laws.Refusals.{Passed}
-use Rattle.model.proofs.Theorems.Commands.{step-sound}
-use Rattle.model.proofs.Theorems.Points.{at-node, node-at}
-use Rattle.model.proofs.Theorems.Upstream.Frames.{declarations-kept, others-kept, subject-after}
-use Rattle.model.proofs.Theorems.Upstream.Observed.{Available, BindingIsTarget, Coherent, CommittedFrom, CompleteTarget, coherent-target, complete-target, target-available}
-use Rattle.model.proofs.Theorems.Upstream.Replies.{accepted-step, accepts}
-use Rattle.model.specs.Commands.{Command, step}
-use Rattle.model.specs.Lifecycle.{beginTests, begunNode, bindings, phaseAt}
-use Rattle.model.specs.Records.{isInactive, isLoading, liveLink}
-use Rattle.model.specs.Refusals.{accepted}
-use Rattle.model.specs.Resolution.{Provides, committed, target}
-use Rattle.model.specs.Sizes.{Sizes, lastGeneration}
-use Rattle.model.specs.Soundness.{sound}
-use Rattle.model.specs.Tables.{Tables, nodeAt, notInactive}
+use mathlib.Core.{Bool.false, Bool.not, Bool.true, List.List, List.List·Memᴰ, List.List·Memᴰ·append-cases, List.Memᴰ·append-right, List.map, Logic._↔_, Logic._⊎_, Logic.inl, Logic.inr, Option.some, Path._∙_, Path._≡_, Path.ap, Path.refl, Path.subst, Path.sym}
+use Prim.Native.{Nat._+_, Nat._≤_, Nat.ℕ}
+use lib.{ListN.length}
+use borrow.{Author.Tests.eqb-false, Author.Tests.le-ltb, Author.Tests.ltb-false, Author.Tests.ne-eqb}
+use Rattle.model.specs.{Commands.Command, Commands.step, Lifecycle.beginTests, Lifecycle.begunNode, Lifecycle.begunWith, Lifecycle.bindings, Lifecycle.phaseAt, Records.bindingIn, Records.consumerIn, Records.isInactive, Records.isLoading, Records.liveLink, Refusals.accepted, Resolution.Provides, Resolution.committed, Resolution.target, Sizes.Sizes, Sizes.lastGeneration, Soundness.sound, Tables.Tables, Tables.nodeAt, Tables.notInactive, Tables.present, declared.Binding.Binding, declared.Port.Port, declared.records.Link.Link, declared.records.Node.Node}
+use Rattle.model.proofs.{Laws.Booleans.clash, Laws.Booleans.not-f, Laws.Committed.committed-append, Laws.Committed.committed-idle, Laws.Committed.fresh-mine, Laws.Facts.facts, Laws.Lists.in-map, Laws.Lists.is-some, Laws.Lists.map-in, Laws.Nodes.present-lt, Laws.Refusals.Passed, Theorems.Commands.step-sound, Theorems.Points.at-node, Theorems.Points.node-at, Theorems.Upstream.Frames.declarations-kept, Theorems.Upstream.Frames.others-kept, Theorems.Upstream.Frames.subject-after, Theorems.Upstream.Observed.Available, Theorems.Upstream.Observed.BindingIsTarget, Theorems.Upstream.Observed.Coherent, Theorems.Upstream.Observed.CommittedFrom, Theorems.Upstream.Observed.CompleteTarget, Theorems.Upstream.Observed.coherent-target, Theorems.Upstream.Observed.complete-target, Theorems.Upstream.Observed.target-available, Theorems.Upstream.Replies.accepted-step, Theorems.Upstream.Replies.accepts}
 
 pub record BeginEnabled (S : Sizes) (T : Tables) (id : ℕ) : Type 0 where
   pub inactive : isInactive (phaseAt T id) ≡ true
@@ -57,11 +32,15 @@ module _ (S : Sizes) (T : Tables) (id : ℕ) (s : sound S T ≡ true) where
       let (bs, e) = is-some (target T id) (p .1 .1 .1 .1 .0) in
       rw (accepted-step S T beginning p, e) (go bs (complete-target S T s id bs e) (rw (not-f (isInactive (phaseAt T id)) (p .1 .0))))
     where
-      old : (bs : List Binding) → CompleteTarget T id bs → notInactive (T .nodes) id ≡ false → (l : Link) → l .live ≡ true → l .consumer ≡ id → List·Memᴰ l (T .links) ⊎ List·Memᴰ l (map (liveLink id) bs) → BindingIsTarget T id (l .binding)
+      old :
+          (bs : List Binding) → CompleteTarget T id bs → notInactive (T .nodes) id ≡ false
+          → (l : Link) → l .live ≡ true → consumerIn l ≡ id
+          → List·Memᴰ l (T .links) ⊎ List·Memᴰ l (map (liveLink id) bs)
+          → BindingIsTarget T id (bindingIn l)
       old bs c i l v x (inl m) = clash _ (rw x at (facts S T s .safe .live l m v .consumer-installed)) i
-      old bs c i l v x (inr m) = let (b, n, q) = in-map (liveLink id) bs m in subst (λ (z : Link). BindingIsTarget T id (z .binding)) (sym q) (c .targets b n)
+      old bs c i l v x (inr m) = let (b, n, q) = in-map (liveLink id) bs m in subst (λ (z : Link). BindingIsTarget T id (bindingIn z)) (sym q) (c .targets b n)
 
-      go : (bs : List Binding) → CompleteTarget T id bs → notInactive (T .nodes) id ≡ false → CommittedFrom T (record { nodes = set (T .nodes) id (begunNode (nodeAt (T .nodes) id)); declarations = T .declarations; links = T .links ++ map (liveLink id) bs }) id
+      go : (bs : List Binding) → CompleteTarget T id bs → notInactive (T .nodes) id ≡ false → CommittedFrom T (begunWith T id bs) id
       go bs c i = record {
         there = c .there;
         kept = c .kept;
@@ -98,9 +77,12 @@ module _ (S : Sizes) (T : Tables) (id : ℕ) (s : sound S T ≡ true) where
       now = subject-after S T beginning h
 
       other : (p : Port) (o : ℕ) → Provides T p o → o ≡ id → ⊥
-      other p o w e = clash {A = ⊥} (isInactive (phaseAt T id)) (k .inactive) (subst (λ (i : ℕ). isInactive (phaseAt T i) ≡ false) e (ap (λ (n : Node). isInactive (n .phase)) (at-node (T .nodes) o (w .0) (w .1)) ∙ ap isInactive (w .3)))
+      other p o w e =
+          let active : isInactive (phaseAt T o) ≡ false = ap (λ (n : Node). isInactive (n .phase)) (at-node (T .nodes) o (w .0) (w .1)) ∙ ap isInactive (w .3) in
+          clash {A = ⊥} (isInactive (phaseAt T id)) (k .inactive) (subst (λ (i : ℕ). isInactive (phaseAt T i) ≡ false) e active)
 
       still : (p : Port) (o : ℕ) → Provides T p o → (o ≡ id → ⊥) → Provides U p o
       still p o w d =
           let e : nodeAt (U .nodes) o ≡ w .0 = others-kept S T beginning o d ∙ at-node (T .nodes) o (w .0) (w .1) in
-          (nodeAt (U .nodes) o, node-at (U .nodes) o (present-lt _ _ (ap (λ (n : Node). n .present) e ∙ w .2)), ap (λ (n : Node). n .present) e ∙ w .2, ap (λ (n : Node). n .phase) e ∙ w .3, rw (declarations-kept S T beginning refl) (w .4))
+          let here : present (U .nodes) o ≡ true = ap (λ (n : Node). n .present) e ∙ w .2 in
+          (nodeAt (U .nodes) o, node-at (U .nodes) o (present-lt _ _ here), here, ap (λ (n : Node). n .phase) e ∙ w .3, rw (declarations-kept S T beginning refl) (w .4))

@@ -1,41 +1,11 @@
 -- Declarations and links after a command: what an interface command adds and drops, what finish_cleanup and the compactions leave.
-use mathlib.Core.Path.{_∙_, _≡_, ap, refl, sym}
-use mathlib.Core.Bool.{Bool, _&&_, _||_, cond, false, not, true}
-use mathlib.Core.List.{List·Memᴰ, List·Memᴰ·append-cases, List·Memᴰ·eq-of-singleton, List·Memᴰ·head, Memᴰ·append-left, Memᴰ·append-right, Memᴰ·cast, [], _++_, _∷_, map}
-use mathlib.Core.Logic.{_↔_, _⊎_, inl, inr}
-use Prim.Native.Nat.{_+_, ℕ}
-use native.Mathlib.Omega.{arith}
-use lib.Dec.{eqb}
-use lib.ListN.{length}
-use borrow.Author.Tests.{eq-eqb}
-use Rattle.model.specs.declared.Declaration.{Declaration}
-use Rattle.model.specs.declared.Link.{Link}
-use Rattle.model.specs.declared.Parent.{Parent}
-use Rattle.model.specs.declared.Phase.{Phase}
-use Rattle.model.specs.declared.Port.{Port}
-use Rattle.model.specs.declared.PortList.{PortList}
-use Rattle.model.proofs.Laws.Booleans.{and-i, and-l, clash, f-not, not-f, not-t}
-use Rattle.model.proofs.Laws.Committed.{committed-compact, committed-dead}
-use Rattle.model.proofs.Laws.Entry.{refuted}
-use Rattle.model.proofs.Laws.Facts.{declaration-is, declares-in, in-declares, is-declaration, port-same}
-use Rattle.model.proofs.Laws.Lists.{in-keep, in-map, keep-in, length-keep, map-in, none-in}
-use Rattle.model.proofs.Laws.Live.{any-kept}
-use Rattle.model.proofs.Laws.Refusals.{Passed, step-keeps}
-use Rattle.model.proofs.Theorems.FinishCleanup.{dead-live}
-use Rattle.model.proofs.Theorems.Upstream.Replies.{accepted-step, accepts}
-use Rattle.model.specs.Commands.{Command, step, tests}
-use Rattle.model.specs.Compaction.{bindingsCompacted, bindingsRemoved, declarationsCompacted, declarationsRemoved}
-use Rattle.model.specs.Insertion.{newDeclarations}
-use Rattle.model.specs.Interface.{listed, own, reliesOn}
-use Rattle.model.specs.Lifecycle.{phaseAt}
-use Rattle.model.specs.Lists.{keep}
-use Rattle.model.specs.Observers.{bindingRecords, declarationRecords, provisionReserved}
-use Rattle.model.specs.Records.{deadFor, dependency, isInactive, isRunning, isUnloading, portOf, provision}
-use Rattle.model.specs.Refusals.{Reply, accepted}
-use Rattle.model.specs.Resolution.{committed, isDependencyOf}
-use Rattle.model.specs.Sizes.{Sizes}
-use Rattle.model.specs.Soundness.{declares, isDeclaration}
-use Rattle.model.specs.Tables.{Tables, nodeAt, present}
+use mathlib.Core.{Bool.Bool, Bool._&&_, Bool._||_, Bool.cond, Bool.false, Bool.not, Bool.true, List.List, List.List·Memᴰ, List.List·Memᴰ·append-cases, List.List·Memᴰ·eq-of-singleton, List.List·Memᴰ·head, List.Memᴰ·append-left, List.Memᴰ·append-right, List.Memᴰ·cast, List.[], List._++_, List._∷_, List.map, Logic._↔_, Logic._⊎_, Logic.inl, Logic.inr, Path._∙_, Path._≡_, Path.ap, Path.refl, Path.sym}
+use Prim.Native.{Nat._+_, Nat.ℕ}
+use native.Mathlib.{Omega.arith}
+use lib.{Dec.eqb, ListN.length}
+use borrow.{Author.Tests.eq-eqb}
+use Rattle.model.specs.{Commands.Command, Commands.step, Commands.tests, Compaction.bindingsCompacted, Compaction.bindingsRemoved, Compaction.declarationsCompacted, Compaction.declarationsRemoved, Insertion.newDeclarations, Interface.listed, Interface.own, Interface.reliesOn, Lifecycle.phaseAt, Lists.keep, Observers.bindingRecords, Observers.declarationRecords, Observers.provisionReserved, Records.consumerIn, Records.deadFor, Records.declaredPort, Records.dependency, Records.isInactive, Records.isLive, Records.isRunning, Records.isUnloading, Records.ownerIn, Records.portIn, Records.providerIn, Records.provision, Refusals.Reply, Refusals.accepted, Resolution.committed, Resolution.isDependencyOf, Sizes.Sizes, Soundness.declares, Soundness.isDeclaration, Tables.Tables, Tables.nodeAt, Tables.present, declared.Parent.Parent, declared.Phase.Phase, declared.Port.Port, declared.PortList.PortList, declared.records.Declaration.Declaration, declared.records.Link.Link}
+use Rattle.model.proofs.{Laws.Booleans.and-i, Laws.Booleans.and-l, Laws.Booleans.clash, Laws.Booleans.f-not, Laws.Booleans.not-f, Laws.Booleans.not-t, Laws.Committed.committed-compact, Laws.Committed.committed-dead, Laws.Entry.refuted, Laws.Facts.declaration-passes, Laws.Facts.declares-in, Laws.Facts.in-declares, Laws.Facts.is-declaration, Laws.Facts.port-same, Laws.Lists.in-keep, Laws.Lists.in-map, Laws.Lists.keep-in, Laws.Lists.length-keep, Laws.Lists.map-in, Laws.Lists.none-in, Laws.Live.any-kept, Laws.Refusals.Passed, Laws.Refusals.step-keeps, Theorems.FinishCleanup.dead-live, Theorems.Upstream.Replies.accepted-step, Theorems.Upstream.Replies.accepts}
 
 -- ---- declare_provision
 
@@ -75,22 +45,29 @@ module _ (S : Sizes) (T : Tables) (id : ℕ) (p : Port) where
 
 -- ---- release_provision
 
+-- a declaration is among those of one as of the other
+abbrev SameIn : Declaration → Tables → Tables → Type 0
+SameIn d T U = List·Memᴰ d (U .declarations) ↔ List·Memᴰ d (T .declarations)
+
 module _ (S : Sizes) (T : Tables) (id : ℕ) (p : Port) where
   abbrev releasing : Command
   releasing = Command.releaseProvision id p
 
-  pub release-accepted : accepted ((step S T releasing) .reply) ≡ true → (present (T .nodes) id ≡ true) × ((l : Link) → List·Memᴰ l (T .links) → l .live ≡ true → l .binding .provider ≡ id → portOf (l .binding) ≡ p → ⊥)
+  pub release-accepted : accepted ((step S T releasing) .reply) ≡ true → (present (T .nodes) id ≡ true) × ((l : Link) → List·Memᴰ l (T .links) → l .live ≡ true → providerIn l ≡ id → portIn l ≡ p → ⊥)
   unfolding reliesOn
   release-accepted h =
       let q : Passed (tests S T releasing) = accepts S T releasing .0 h in
-      (not-f _ (q .0), λ l m v e f. clash {A = ⊥} _ (and-i (l .live && eqb (l .binding .provider) id) _ (and-i (l .live) _ v (eq-eqb _ _ e)) (rw f (port-same p))) (none-in (reliesOn id p) m (q .1 .0)))
+      (not-f _ (q .0), λ l m v e f. clash {A = ⊥} _ (and-i (l .live && eqb (providerIn l) id) _ (and-i (l .live) _ v (eq-eqb _ _ e)) (rw f (port-same p))) (none-in (reliesOn id p) m (q .1 .0)))
 
   pub released-gone : accepted ((step S T releasing) .reply) ≡ true → provisionReserved ((step S T releasing) .tables) id p ≡ false
-  released-gone h = rw (accepted-step S T releasing (accepts S T releasing .0 h)) (refuted _ (λ x. clash {A = ⊥} _ (declaration-is id p true) (not-t _ ((in-keep _ (T .declarations) (declares-in _ id p true x)) .1))))
+  released-gone h = rw (accepted-step S T releasing (accepts S T releasing .0 h)) (refuted _ (λ x.
+      clash {A = ⊥} _ (declaration-passes id p true) (not-t _ ((in-keep _ (T .declarations) (declares-in _ id p true x)) .1))))
 
   -- other_interfaces_preserved
-  pub released-others : (d : Declaration) → (d ≡ provision id p → ⊥) → List·Memᴰ d ((step S T releasing) .tables .declarations) ↔ List·Memᴰ d (T .declarations)
-  released-others d f = step-keeps (λ U. List·Memᴰ d (U .declarations) ↔ List·Memᴰ d (T .declarations)) S T releasing (λ m. m, λ m. m) (λ q. (λ m. (in-keep _ (T .declarations) m) .0, λ m. keep-in _ m (f-not _ (refuted _ (λ x. f (sym (is-declaration id p true d x)))))))
+  pub released-others : (d : Declaration) → (d ≡ provision id p → ⊥) → SameIn d T ((step S T releasing) .tables)
+  released-others d f = step-keeps (λ U. SameIn d T U) S T releasing
+      (λ m. m, λ m. m)
+      (λ q. (λ m. (in-keep _ (T .declarations) m) .0, λ m. keep-in _ m (f-not _ (refuted _ (λ x. f (sym (is-declaration id p true d x)))))))
 
 -- ---- configure_pending_dependencies
 
@@ -102,6 +79,9 @@ module _ (S : Sizes) (T : Tables) (id : ℕ) (l : PortList) where
   abbrev configuring : Command
   configuring = Command.configurePendingDependencies id l
 
+  abbrev others : List Declaration
+  others = keep (λ d. not (isDependencyOf id d)) (T .declarations)
+
   pub configure-accepted : accepted ((step S T configuring) .reply) ≡ true → (present (T .nodes) id ≡ true) × ((nodeAt (T .nodes) id) .retired ≡ false) × (isInactive (phaseAt T id) ≡ true)
   configure-accepted h =
       let q : Passed (tests S T configuring) = accepts S T configuring .0 h in
@@ -109,17 +89,19 @@ module _ (S : Sizes) (T : Tables) (id : ℕ) (l : PortList) where
 
   -- the dependencies are those of the list
   pub configured-dependencies : accepted ((step S T configuring) .reply) ≡ true → (p : Port) → List·Memᴰ (dependency id p) ((step S T configuring) .tables .declarations) ↔ List·Memᴰ p (listed l)
-  configured-dependencies h p = rw (accepted-step S T configuring (accepts S T configuring .0 h)) (λ m. go (List·Memᴰ·append-cases (keep (λ d. not (isDependencyOf id d)) (T .declarations)) m), λ m. Memᴰ·append-right (keep (λ d. not (isDependencyOf id d)) (T .declarations)) (map-in (dependency id) m))
+  configured-dependencies h p = rw (accepted-step S T configuring (accepts S T configuring .0 h)) (λ m. go (List·Memᴰ·append-cases others m), λ m. Memᴰ·append-right others (map-in (dependency id) m))
     where
-      go : List·Memᴰ (dependency id p) (keep (λ d. not (isDependencyOf id d)) (T .declarations)) ⊎ List·Memᴰ (dependency id p) (map (dependency id) (listed l)) → List·Memᴰ p (listed l)
+      go : List·Memᴰ (dependency id p) others ⊎ List·Memᴰ (dependency id p) (map (dependency id) (listed l)) → List·Memᴰ p (listed l)
       go (inl m) = clash _ (own-dependency id p) (not-t _ ((in-keep (λ d. not (isDependencyOf id d)) (T .declarations) m) .1))
-      go (inr m) = let (x, n, e) = in-map (dependency id) (listed l) m in Memᴰ·cast (ap (λ (d : Declaration). d .port) e) n
+      go (inr m) = let (x, n, e) = in-map (dependency id) (listed l) m in Memᴰ·cast (ap declaredPort e) n
 
   -- every other declaration is as before
-  pub configured-others : (d : Declaration) → isDependencyOf id d ≡ false → List·Memᴰ d ((step S T configuring) .tables .declarations) ↔ List·Memᴰ d (T .declarations)
-  configured-others d f = step-keeps (λ U. List·Memᴰ d (U .declarations) ↔ List·Memᴰ d (T .declarations)) S T configuring (λ m. m, λ m. m) (λ q. (λ m. go (List·Memᴰ·append-cases (keep (λ d. not (isDependencyOf id d)) (T .declarations)) m), λ m. Memᴰ·append-left _ (keep-in (λ d. not (isDependencyOf id d)) m (f-not _ f))))
+  pub configured-others : (d : Declaration) → isDependencyOf id d ≡ false → SameIn d T ((step S T configuring) .tables)
+  configured-others d f = step-keeps (λ U. SameIn d T U) S T configuring
+      (λ m. m, λ m. m)
+      (λ q. (λ m. go (List·Memᴰ·append-cases others m), λ m. Memᴰ·append-left _ (keep-in (λ d. not (isDependencyOf id d)) m (f-not _ f))))
     where
-      go : List·Memᴰ d (keep (λ d. not (isDependencyOf id d)) (T .declarations)) ⊎ List·Memᴰ d (map (dependency id) (listed l)) → List·Memᴰ d (T .declarations)
+      go : List·Memᴰ d others ⊎ List·Memᴰ d (map (dependency id) (listed l)) → List·Memᴰ d (T .declarations)
       go (inl m) = (in-keep (λ d. not (isDependencyOf id d)) (T .declarations) m) .0
       go (inr m) = let (x, n, e) = in-map (dependency id) (listed l) m in clash _ (own-dependency id x) (rw e at f)
 
@@ -127,17 +109,20 @@ module _ (S : Sizes) (T : Tables) (id : ℕ) (l : PortList) where
 
 -- the declarations of the new identity are those of the two lists
 module _ (S : Sizes) (T : Tables) (q : Parent) (ds ps : PortList) where
-  pub inserted-declarations : accepted ((step S T (Command.insert q ds ps)) .reply) ≡ true → (step S T (Command.insert q ds ps)) .tables .declarations ≡ T .declarations ++ newDeclarations (length (T .nodes)) ds ps
+  abbrev inserting : Command
+  inserting = Command.insert q ds ps
+
+  pub inserted-declarations : accepted ((step S T inserting) .reply) ≡ true → (step S T inserting) .tables .declarations ≡ T .declarations ++ newDeclarations (length (T .nodes)) ds ps
   inserted-declarations h = rw (accepted-step S T (Command.insert q ds ps) (accepts S T (Command.insert q ds ps) .0 h))
 
 -- ---- finish_cleanup
 
 module _ (S : Sizes) (T : Tables) (id : ℕ) where
   -- no_committed
-  pub no-committed : accepted ((step S T (Command.finishCleanup id)) .reply) ≡ true → (l : Link) → List·Memᴰ l ((step S T (Command.finishCleanup id)) .tables .links) → l .live ≡ true → l .consumer ≡ id → ⊥
+  pub no-committed : accepted ((step S T (Command.finishCleanup id)) .reply) ≡ true → (l : Link) → List·Memᴰ l ((step S T (Command.finishCleanup id)) .tables .links) → l .live ≡ true → consumerIn l ≡ id → ⊥
   no-committed h l m v e =
       let (o, n, x) = in-map (deadFor id) (T .links) (rw (accepted-step S T (Command.finishCleanup id) (accepts S T (Command.finishCleanup id) .0 h)) at m) in
-      (dead-live id o (rw x at v)) .1 (sym (ap (λ (z : Link). z .consumer) x) ∙ e)
+      (dead-live id o (rw x at v)) .1 (sym (ap consumerIn x) ∙ e)
 
   pub commitments-frame : (i : ℕ) → (i ≡ id → ⊥) → committed ((step S T (Command.finishCleanup id)) .tables .links) i ≡ committed (T .links) i
   commitments-frame i d = step-keeps (λ U. committed (U .links) i ≡ committed (T .links) i) S T (Command.finishCleanup id) refl (λ p. committed-dead (T .links) i id d)
@@ -154,13 +139,13 @@ module _ (S : Sizes) (T : Tables) where
 
 module _ (T : Tables) where
   pub bindings-fewer : bindingRecords (bindingsCompacted T) + bindingsRemoved T ≡ bindingRecords T
-  bindings-fewer = omega (arith, length-keep (λ l. l .live) (T .links))
+  bindings-fewer = omega (arith, length-keep isLive (T .links))
 
   pub declarations-fewer : declarationRecords (declarationsCompacted T) + declarationsRemoved T ≡ declarationRecords T
-  declarations-fewer = omega (arith, length-keep (λ d. present (T .nodes) (d .owner)) (T .declarations))
+  declarations-fewer = omega (arith, length-keep (λ d. present (T .nodes) (ownerIn d)) (T .declarations))
 
   pub compacted-live : (l : Link) → List·Memᴰ l ((bindingsCompacted T) .links) → l .live ≡ true
-  compacted-live l m = (in-keep (λ l. l .live) (T .links) m) .1
+  compacted-live l m = (in-keep isLive (T .links) m) .1
 
   -- same_live_bindings
   pub compacted-committed : (id : ℕ) → committed ((bindingsCompacted T) .links) id ≡ committed (T .links) id
@@ -168,4 +153,6 @@ module _ (T : Tables) where
 
   -- same_interfaces
   pub compacted-interfaces : (o : ℕ) (p : Port) (b : Bool) → present (T .nodes) o ≡ true → declares ((declarationsCompacted T) .declarations) o p b ≡ declares (T .declarations) o p b
-  compacted-interfaces o p b t = any-kept (λ d. present (T .nodes) (d .owner)) (isDeclaration o p b) (λ d h. refuted _ (λ x. clash {A = ⊥} _ t (rw (sym (ap (λ (z : Declaration). z .owner) (is-declaration o p b d x))) at h))) (T .declarations)
+  compacted-interfaces o p b t = any-kept (λ d. present (T .nodes) (ownerIn d)) (isDeclaration o p b)
+      (λ d h. refuted _ (λ x. clash {A = ⊥} _ t (rw (sym (ap ownerIn (is-declaration o p b d x))) at h)))
+      (T .declarations)

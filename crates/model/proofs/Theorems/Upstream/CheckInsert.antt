@@ -1,26 +1,14 @@
 -- The refusals of check_insert: 9, 1 and 5 exactly where the row puts them.
-use mathlib.Core.Path.{_≡_, ap, refl}
-use mathlib.Core.Bool.{Bool, _||_, false, not, true}
-use mathlib.Core.List.{List, [], _∷_}
-use mathlib.Core.Option.{Option, none, some}
-use mathlib.Core.Logic.{_↔_, _⊎_, inl, inr}
-use Prim.Native.Nat.{_+_, ℕ}
-use native.Mathlib.Omega.{arith}
-use lib.Dec.{eqb, leb, ltb}
-use lib.ListN.{length}
-use borrow.Author.Tests.{eq-eqb}
-use Rattle.model.specs.declared.Error.{Error}
-use Rattle.model.specs.declared.Parent.{Parent}
-use Rattle.model.specs.declared.PortList.{PortList}
-use Rattle.model.proofs.Laws.Booleans.{clash}
-use Rattle.model.specs.Insertion.{checkInsert, clashes, insertTests, parentPresent}
-use Rattle.model.specs.Interface.{listed, tooLong}
-use Rattle.model.specs.Refusals.{Reply, first, number, orElse}
-use Rattle.model.specs.Sizes.{Sizes}
-use Rattle.model.specs.Tables.{Tables}
+use mathlib.Core.{Bool.Bool, Bool._||_, Bool.false, Bool.not, Bool.true, List.[], List._∷_, Logic._↔_, Logic._⊎_, Logic.inl, Logic.inr, Option.Option, Option.none, Option.some, Path._≡_, Path.ap, Path.refl}
+use Prim.Native.{Nat._+_, Nat.ℕ}
+use native.Mathlib.{Omega.arith}
+use lib.{Dec.eqb, Dec.leb, Dec.ltb, ListN.length}
+use borrow.{Author.Tests.eq-eqb}
+use Rattle.model.specs.{Insertion.checkInsert, Insertion.clashes, Insertion.insertTests, Insertion.parentPresent, Interface.listed, Interface.tooLong, Refusals.Reply, Refusals.Tests, Refusals.first, Refusals.number, Refusals.orElse, Sizes.Sizes, Tables.Tables, declared.Error.Error, declared.Parent.Parent, declared.PortList.PortList}
+use Rattle.model.proofs.{Laws.Booleans.clash}
 
 -- the row, whatever its tests
-abbrev row : Bool → Bool → Bool → Bool → Bool → List (Bool × Error)
+abbrev row : Bool → Bool → Bool → Bool → Bool → Tests
 row a b c d e = (a, Error.Capacity) ∷ (b, Error.Capacity) ∷ (c, Error.Unknown) ∷ (d, Error.Conflict) ∷ (e, Error.Capacity) ∷ []
 
 -- no refusal is another, and none is no refusal
@@ -84,14 +72,23 @@ module _ (S : Sizes) (T : Tables) (q : Parent) (ds ps : PortList) where
   abbrev crowded : Bool
   crowded = ltb (S .declarations) (length (T .declarations) + length (listed ds) + length (listed ps))
 
-  pub check-insert-unknown : (checkInsert S T q ds ps ≡ Reply.refused Error.Unknown) ↔ ((long ≡ false) × (full ≡ false) × (not (parentPresent T q) ≡ true))
-  unfolding checkInsert first
-  check-insert-unknown = (λ h. unknown-row long full (not (parentPresent T q)) (clashes T ds ps) crowded (or-else _ _ .0 h), λ (x, y, z). or-else (first (insertTests S T q ds ps)) Error.Unknown .1 (rw (x, y, z)))
+  abbrev orphan : Bool
+  orphan = not (parentPresent T q)
 
-  pub check-insert-conflict : (checkInsert S T q ds ps ≡ Reply.refused Error.Conflict) ↔ ((long ≡ false) × (full ≡ false) × (not (parentPresent T q) ≡ false) × (clashes T ds ps ≡ true))
-  unfolding checkInsert first
-  check-insert-conflict = (λ h. conflict-row long full (not (parentPresent T q)) (clashes T ds ps) crowded (or-else _ _ .0 h), λ (x, y, z, w). or-else (first (insertTests S T q ds ps)) Error.Conflict .1 (rw (x, y, z, w)))
+  abbrev clashing : Bool
+  clashing = clashes T ds ps
 
-  pub check-insert-capacity : (checkInsert S T q ds ps ≡ Reply.refused Error.Capacity) ↔ Full long full (not (parentPresent T q)) (clashes T ds ps) crowded
+  abbrev refusal : Option Error
+  refusal = first (insertTests S T q ds ps)
+
+  pub check-insert-unknown : (checkInsert S T q ds ps ≡ Reply.refused Error.Unknown) ↔ ((long ≡ false) × (full ≡ false) × (orphan ≡ true))
+  unfolding checkInsert first
+  check-insert-unknown = (λ h. unknown-row long full orphan clashing crowded (or-else _ _ .0 h), λ (x, y, z). or-else refusal Error.Unknown .1 (rw (x, y, z)))
+
+  pub check-insert-conflict : (checkInsert S T q ds ps ≡ Reply.refused Error.Conflict) ↔ ((long ≡ false) × (full ≡ false) × (orphan ≡ false) × (clashing ≡ true))
+  unfolding checkInsert first
+  check-insert-conflict = (λ h. conflict-row long full orphan clashing crowded (or-else _ _ .0 h), λ (x, y, z, w). or-else refusal Error.Conflict .1 (rw (x, y, z, w)))
+
+  pub check-insert-capacity : (checkInsert S T q ds ps ≡ Reply.refused Error.Capacity) ↔ Full long full orphan clashing crowded
   unfolding checkInsert
-  check-insert-capacity = (λ h. capacity-row long full (not (parentPresent T q)) (clashes T ds ps) crowded (or-else _ _ .0 h), λ f. or-else (first (insertTests S T q ds ps)) Error.Capacity .1 (row-capacity long full (not (parentPresent T q)) (clashes T ds ps) crowded f))
+  check-insert-capacity = (λ h. capacity-row long full orphan clashing crowded (or-else _ _ .0 h), λ f. or-else refusal Error.Capacity .1 (row-capacity long full orphan clashing crowded f))

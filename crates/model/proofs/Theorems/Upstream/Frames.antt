@@ -1,26 +1,10 @@
 -- What an accepted command keeps: the tables that it does not write, every node but its subject's, generations and restoring.
-use mathlib.Core.Path.{_∙_, _≡_, ap, refl}
-use mathlib.Core.Bool.{Bool, false, true}
-use mathlib.Core.List.{[], _∷_}
-use Prim.Native.Nat.{suc, ℕ}
-use native.Mathlib.Omega.{arith}
-use native.Mathlib.Decide.{ℕ-discrete}
-use lib.ListN.{length, length-append, length-set}
-use lib.Seq.{getD-append-seam}
-use Rattle.model.specs.declared.Node.{Node}
-use Rattle.model.specs.declared.Parent.{Parent}
-use Rattle.model.specs.declared.Phase.{Phase}
-use Rattle.model.specs.declared.PortList.{PortList}
-use Rattle.model.proofs.Laws.Booleans.{clash, not-f}
-use Rattle.model.proofs.Laws.Nodes.{at-other, at-same, at-snoc, past-blank, present-lt}
-use Rattle.model.proofs.Laws.Refusals.{Passed, step-keeps}
-use Rattle.model.proofs.Theorems.Upstream.Replies.{accepted-step, accepts}
-use Rattle.model.specs.Commands.{Command, result, step, tests}
-use Rattle.model.specs.Lifecycle.{begunNode}
-use Rattle.model.specs.Records.{absentNode, blankNode, newNode, restoredNode, restoringNode, retiredNode, withPhase}
-use Rattle.model.specs.Refusals.{accepted}
-use Rattle.model.specs.Sizes.{Sizes}
-use Rattle.model.specs.Tables.{Tables, nodeAt}
+use mathlib.Core.{Bool.Bool, Bool.false, Bool.true, List.[], List._∷_, Path._∙_, Path._≡_, Path.ap, Path.refl}
+use Prim.Native.{Nat.suc, Nat.ℕ}
+use native.Mathlib.{Decide.ℕ-discrete, Omega.arith}
+use lib.{ListN.length, ListN.length-append, ListN.length-set, Seq.getD-append-seam}
+use Rattle.model.specs.{Commands.Command, Commands.result, Commands.step, Commands.tests, Lifecycle.begunNode, Records.absentNode, Records.blankNode, Records.newNode, Records.restoredNode, Records.restoringNode, Records.retiredNode, Records.withPhase, Refusals.accepted, Sizes.Sizes, Tables.Tables, Tables.nodeAt, declared.Parent.Parent, declared.Phase.Phase, declared.PortList.PortList, declared.records.Node.Node}
+use Rattle.model.proofs.{Laws.Booleans.clash, Laws.Booleans.not-f, Laws.Nodes.at-other, Laws.Nodes.at-same, Laws.Nodes.at-snoc, Laws.Nodes.past-blank, Laws.Nodes.present-lt, Laws.Refusals.Passed, Laws.Refusals.step-keeps, Theorems.Upstream.Replies.accepted-step, Theorems.Upstream.Replies.accepts}
 
 -- ---- the tables that a command writes
 
@@ -205,7 +189,15 @@ generation-same T (Command.remove id) h = refl
 generation-same T Command.compactBindings h = refl
 generation-same T Command.compactDeclarations h = refl
 
-restoring-same : (T : Tables) (c : Command) → ((id : ℕ) → c ≡ Command.beginCleanup id → ⊥) → ((id : ℕ) → c ≡ Command.finishCleanup id → ⊥) → (rewritten c (nodeAt (T .nodes) (subject T c))) .restoring ≡ (nodeAt (T .nodes) (subject T c)) .restoring
+-- the command is none that this makes of an identity
+abbrev IsNot : Command → (ℕ → Command) → Type 0
+IsNot c f = (id : ℕ) → c ≡ f id → ⊥
+
+-- the subject's node before it
+abbrev subjectNode : Tables → Command → Node
+subjectNode T c = nodeAt (T .nodes) (subject T c)
+
+restoring-same : (T : Tables) (c : Command) → IsNot c Command.beginCleanup → IsNot c Command.finishCleanup → (rewritten c (subjectNode T c)) .restoring ≡ (subjectNode T c) .restoring
 restoring-same T (Command.insert q ds ps) g h = rw (past-blank (T .nodes) (length (T .nodes)) (omega arith))
 restoring-same T (Command.declareProvision id p) g h = refl
 restoring-same T (Command.releaseProvision id p) g h = refl
@@ -231,7 +223,7 @@ module _ (S : Sizes) (T : Tables) (c : Command) where
   others-kept i d = step-keeps (λ U. nodeAt (U .nodes) i ≡ nodeAt (T .nodes) i) S T c refl (λ p. others-same T c i d)
 
   -- what the subject's new node has as before, every node has as before, the absent ones too
-  pub field-kept : {A : Type 0} (f : Node → A) → f (rewritten c (nodeAt (T .nodes) (subject T c))) ≡ f (nodeAt (T .nodes) (subject T c)) → (i : ℕ) → f (nodeAt ((step S T c) .tables .nodes) i) ≡ f (nodeAt (T .nodes) i)
+  pub field-kept : {A : Type 0} (f : Node → A) → f (rewritten c (subjectNode T c)) ≡ f (subjectNode T c) → (i : ℕ) → f (nodeAt ((step S T c) .tables .nodes) i) ≡ f (nodeAt (T .nodes) i)
   field-kept f h i = go (ℕ-discrete i (subject T c))
     where
       go : Dec (i ≡ subject T c) → f (nodeAt ((step S T c) .tables .nodes) i) ≡ f (nodeAt (T .nodes) i)
@@ -247,9 +239,13 @@ module _ (S : Sizes) (T : Tables) (c : Command) where
   generations-kept h i = field-kept (λ n. n .generation) (generation-same T c h) i
 
   -- is_restoring
-  pub restoring-kept : ((id : ℕ) → c ≡ Command.beginCleanup id → ⊥) → ((id : ℕ) → c ≡ Command.finishCleanup id → ⊥) → (i : ℕ) → (nodeAt ((step S T c) .tables .nodes) i) .restoring ≡ (nodeAt (T .nodes) i) .restoring
+  pub restoring-kept : IsNot c Command.beginCleanup → IsNot c Command.finishCleanup → (i : ℕ) → (nodeAt ((step S T c) .tables .nodes) i) .restoring ≡ (nodeAt (T .nodes) i) .restoring
   restoring-kept g h i = field-kept (λ n. n .restoring) (restoring-same T c g h) i
 
 -- insert issues one identity more
-pub slots-inserted : (S : Sizes) (T : Tables) (q : Parent) (ds ps : PortList) → accepted ((step S T (Command.insert q ds ps)) .reply) ≡ true → length ((step S T (Command.insert q ds ps)) .tables .nodes) ≡ suc (length (T .nodes))
-slots-inserted S T q ds ps h = rw (accepted-step S T (Command.insert q ds ps) (accepts S T (Command.insert q ds ps) .0 h), length-append (T .nodes) (newNode q ∷ [])) (omega arith)
+module _ (S : Sizes) (T : Tables) (q : Parent) (ds ps : PortList) where
+  abbrev inserting : Command
+  inserting = Command.insert q ds ps
+
+  pub slots-inserted : accepted ((step S T inserting) .reply) ≡ true → length ((step S T inserting) .tables .nodes) ≡ suc (length (T .nodes))
+  slots-inserted h = rw (accepted-step S T inserting (accepts S T inserting .0 h), length-append (T .nodes) (newNode q ∷ [])) (omega arith)

@@ -1,29 +1,25 @@
 -- ids and children: which identities they list, and that these ascend.
-use mathlib.Core.Path.{_≡_, refl, subst}
-use mathlib.Core.Bool.{Bool, cond, false, true}
-use mathlib.Core.List.{List, List·Memᴰ, List·Memᴰ·head, List·Memᴰ·not-nil, List·Memᴰ·tail, Memᴰ·cast, [], _∷_}
-use mathlib.Core.Logic.{_↔_}
-use Prim.Native.Nat.{_+_, _<_, _≤_, suc, zero, ℕ}
-use native.Mathlib.Omega.{arith}
-use lib.ListN.{getD, length}
-use Rattle.model.specs.declared.Node.{Node}
-use Rattle.model.proofs.Laws.Booleans.{and-l}
-use Rattle.model.proofs.Laws.Nodes.{present-lt}
-use Rattle.model.specs.Lists.{places}
-use Rattle.model.specs.Observers.{children, ids}
-use Rattle.model.specs.Records.{blankNode, isChildOf}
-use Rattle.model.specs.Tables.{Tables, nodeAt, present}
+use mathlib.Core.{Bool.Bool, Bool.cond, Bool.false, Bool.true, List.List, List.List·Memᴰ, List.List·Memᴰ·head, List.List·Memᴰ·not-nil, List.List·Memᴰ·tail, List.Memᴰ·cast, List.[], List._∷_, Logic._↔_, Path._≡_, Path.refl, Path.subst}
+use Prim.Native.{Nat._+_, Nat._<_, Nat._≤_, Nat.suc, Nat.zero, Nat.ℕ}
+use native.Mathlib.{Omega.arith}
+use lib.{ListN.getD, ListN.length}
+use Rattle.model.specs.{Lists.places, Observers.children, Observers.ids, Records.blankNode, Records.isChildOf, Tables.Tables, Tables.nodeAt, Tables.present, declared.records.Node.Node}
+use Rattle.model.proofs.{Laws.Booleans.and-l, Laws.Nodes.present-lt}
 
 module _ {A : Type 0} (p : A → Bool) where
-  places-at : (k : ℕ) (xs : List A) (i : ℕ) → List·Memᴰ i (places p k xs) → (j : ℕ) × (i ≡ k + j) × (j < length xs) × ((d : A) → p (getD xs j d) ≡ true)
+  -- i is the number of a place that passes, counted from k
+  abbrev Placed : ℕ → List A → ℕ → Type 0
+  Placed k xs i = (j : ℕ) × (i ≡ k + j) × (j < length xs) × ((d : A) → p (getD xs j d) ≡ true)
+
+  places-at : (k : ℕ) (xs : List A) (i : ℕ) → List·Memᴰ i (places p k xs) → Placed k xs i
   unfolding places
   places-at k [] i m = absurd (List·Memᴰ·not-nil m)
   places-at k (x ∷ xs) i m = go (p x) refl m (λ n. places-at (suc k) xs i n)
     where
-      on : (j : ℕ) × (i ≡ suc k + j) × (j < length xs) × ((d : A) → p (getD xs j d) ≡ true) → (j : ℕ) × (i ≡ k + j) × (j < length (x ∷ xs)) × ((d : A) → p (getD (x ∷ xs) j d) ≡ true)
+      on : Placed (suc k) xs i → Placed k (x ∷ xs) i
       on (j, e, l, h) = (suc j, omega arith, omega arith, h)
 
-      go : (b : Bool) → p x ≡ b → List·Memᴰ i (cond b (k ∷ places p (suc k) xs) (places p (suc k) xs)) → (List·Memᴰ i (places p (suc k) xs) → (j : ℕ) × (i ≡ suc k + j) × (j < length xs) × ((d : A) → p (getD xs j d) ≡ true)) → (j : ℕ) × (i ≡ k + j) × (j < length (x ∷ xs)) × ((d : A) → p (getD (x ∷ xs) j d) ≡ true)
+      go : (b : Bool) → p x ≡ b → List·Memᴰ i (cond b (k ∷ places p (suc k) xs) (places p (suc k) xs)) → (List·Memᴰ i (places p (suc k) xs) → Placed (suc k) xs i) → Placed k (x ∷ xs) i
       go true e (List·Memᴰ·head q) f = (0, omega arith, omega arith, λ d. e)
       go true e (List·Memᴰ·tail n) f = on (f n)
       go false e n f = on (f n)

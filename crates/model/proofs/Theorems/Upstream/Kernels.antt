@@ -1,14 +1,7 @@
 -- From tables to kernels: what a command hands back of a sound kernel is sound, and its tables and its reply are those of the step.
-use mathlib.Core.Path.{_∙_, _≡_, ap}
-use mathlib.Core.Bool.{false, true}
-use Rattle.model.proofs.Theorems.Commands.{step-sound}
-use Rattle.model.proofs.Theorems.Layouts.{laid-out, layout-sound, read-back, tables-sound}
-use Rattle.model.proofs.Theorems.Upstream.Replies.{refused-unchanged}
-use Rattle.model.specs.Commands.{Command, step}
-use Rattle.model.specs.Kernels.{commanded}
-use Rattle.model.specs.Layouts.{Layout, Sized, layOut, soundKernel, tablesOf}
-use Rattle.model.specs.Refusals.{accepted}
-use Rattle.model.specs.Sizes.{Sizes}
+use mathlib.Core.{Bool.false, Bool.true, Path._∙_, Path._≡_, Path.ap}
+use Rattle.model.proofs.{Theorems.Commands.step-sound, Theorems.Layouts.laid-out, Theorems.Layouts.layout-sound, Theorems.Layouts.read-back, Theorems.Layouts.tables-sound, Theorems.Upstream.Replies.refused-unchanged}
+use Rattle.model.specs.{Commands.Command, Commands.step, Kernels.commanded, Layouts.Layout, Layouts.Sized, Layouts.layOut, Layouts.soundKernel, Layouts.tablesOf, Refusals.accepted, Sizes.Sizes}
 
 module _ (S : Sizes) (k : Layout) (c : Command) (h : soundKernel S k ≡ true) where
   pub commanded-tables : tablesOf ((commanded S k c) .kernel) ≡ (step S (tablesOf k) c) .tables

@@ -1,32 +1,11 @@
 -- resolve, target and committed as the original's contracts speak of them, and coherence.
-use mathlib.Core.Path.{_∙_, _≡_, ap, refl, subst, sym}
-use mathlib.Core.Bool.{_&&_, false, not, true}
-use mathlib.Core.List.{List, List·Memᴰ, List·Memᴰ·head, List·Memᴰ·tail, Memᴰ·cast, [], _∷_}
-use mathlib.Core.Option.{Option, none, some}
-use mathlib.Core.Logic.{_↔_}
-use Prim.Native.Nat.{_<_, suc, zero, ℕ}
-use native.Mathlib.Omega.{arith}
-use lib.ListN.{length, length-map}
-use borrow.Author.Tests.{eq-eqb}
-use Rattle.model.specs.declared.Binding.{Binding}
-use Rattle.model.specs.declared.Link.{Link}
-use Rattle.model.specs.declared.Port.{Port}
-use Rattle.model.proofs.Laws.Booleans.{and-i, and-l, and-r, clash, f-not, not-t}
-use Rattle.model.proofs.Laws.Committed.{live-link-of}
-use Rattle.model.proofs.Laws.Entry.{refuted}
-use Rattle.model.proofs.Laws.Facts.{Linked, LiveOk, facts, not-restoring, port-same, same-port}
-use Rattle.model.proofs.Laws.Lists.{any-in, at-in, in-at, in-keep, in-map, is-some, keep-in, map-in, none-in}
-use Rattle.model.proofs.Laws.Resolution.{Targeted, bound-in, bound-ports, target-bound, target-covers, target-needed, targeted, wants-in}
-use Rattle.model.proofs.Theorems.Points.{at-node, to-present}
-use Rattle.model.proofs.Theorems.Resolution.{resolve-some}
-use Rattle.model.specs.Interface.{distinct, taken, takenBy}
-use Rattle.model.specs.Lists.{any, isNone, keep}
-use Rattle.model.specs.Points.{At}
-use Rattle.model.specs.Records.{dependency, portOf, provision, samePort}
-use Rattle.model.specs.Resolution.{Provides, bindPorts, committed, dependencyPorts, isLiveLinkOf, joined, target}
-use Rattle.model.specs.Sizes.{Sizes}
-use Rattle.model.specs.Soundness.{sound}
-use Rattle.model.specs.Tables.{Tables, nodeAt, notInactive, present}
+use mathlib.Core.{Bool._&&_, Bool.false, Bool.not, Bool.true, List.List, List.List·Memᴰ, List.List·Memᴰ·head, List.List·Memᴰ·tail, List.Memᴰ·cast, List.[], List._∷_, Logic._↔_, Option.Option, Option.none, Option.some, Path._∙_, Path._≡_, Path.ap, Path.refl, Path.subst, Path.sym}
+use Prim.Native.{Nat._<_, Nat.suc, Nat.zero, Nat.ℕ}
+use native.Mathlib.{Omega.arith}
+use lib.{ListN.length, ListN.length-map}
+use borrow.{Author.Tests.eq-eqb}
+use Rattle.model.specs.{Interface.distinct, Interface.taken, Interface.takenBy, Lists.any, Lists.isNone, Lists.keep, Points.At, Records.bindingIn, Records.consumerIn, Records.declaredPort, Records.dependency, Records.ownerIn, Records.portIn, Records.portOf, Records.providerIn, Records.provision, Records.samePort, Resolution.Provides, Resolution.bindPorts, Resolution.committed, Resolution.dependencyPorts, Resolution.isLiveLinkOf, Resolution.joined, Resolution.target, Sizes.Sizes, Soundness.sound, Tables.Tables, Tables.nodeAt, Tables.notInactive, Tables.present, declared.Binding.Binding, declared.Port.Port, declared.records.Link.Link}
+use Rattle.model.proofs.{Laws.Booleans.and-i, Laws.Booleans.and-l, Laws.Booleans.and-r, Laws.Booleans.clash, Laws.Booleans.f-not, Laws.Booleans.not-t, Laws.Committed.live-link-of, Laws.Entry.refuted, Laws.Facts.Linked, Laws.Facts.LiveOk, Laws.Facts.facts, Laws.Facts.not-restoring, Laws.Facts.port-same, Laws.Facts.same-port, Laws.Lists.any-in, Laws.Lists.at-in, Laws.Lists.in-at, Laws.Lists.in-keep, Laws.Lists.in-map, Laws.Lists.is-some, Laws.Lists.keep-in, Laws.Lists.map-in, Laws.Lists.none-in, Laws.Records.declaration-is, Laws.Resolution.Targeted, Laws.Resolution.bound-in, Laws.Resolution.bound-ports, Laws.Resolution.target-bound, Laws.Resolution.target-covers, Laws.Resolution.target-needed, Laws.Resolution.targeted, Laws.Resolution.wants-in, Theorems.Points.at-node, Theorems.Points.to-present, Theorems.Resolution.resolve-some}
 
 abbrev pub BindingIsTarget : Tables → ℕ → Binding → Type 0
 BindingIsTarget T id b = Provides T (portOf b) (b .provider) × List·Memᴰ (dependency id (portOf b)) (T .declarations)
@@ -48,7 +27,7 @@ pub record Available (T : Tables) (id : ℕ) : Type 0 where
 pub record CommittedFrom (T U : Tables) (id : ℕ) : Type 0 where
   pub there : present (T .nodes) id ≡ true
   pub kept : (nodeAt (T .nodes) id) .retired ≡ false
-  pub targets : (l : Link) → List·Memᴰ l (U .links) → l .live ≡ true → l .consumer ≡ id → BindingIsTarget T id (l .binding)
+  pub targets : (l : Link) → List·Memᴰ l (U .links) → l .live ≡ true → consumerIn l ≡ id → BindingIsTarget T id (bindingIn l)
   pub covers : (p : Port) → List·Memᴰ (dependency id p) (T .declarations) → Linked (U .links) id p
 
 abbrev pub Coherent : Tables → ℕ → Type 0
@@ -100,17 +79,28 @@ module _ (S : Sizes) (T : Tables) (h : sound S T ≡ true) where
 
   -- a component that is not Inactive and has a target is coherent, and the other way round
   pub coherent-target : (id : ℕ) → notInactive (T .nodes) id ≡ true → (isNone (target T id) ≡ false) ↔ Coherent T id
-  coherent-target id i = (λ n. forth (target-available id .0 n), λ c. target-available id .1 (record { there = c .there; kept = c .kept; provided = λ p m. let k : Linked (T .links) id p = c .covers p m in (k .link .binding .provider, rw (k .of-port) at ((c .targets (k .link) (k .among) (k .is-live) (k .of-consumer)) .0)) }))
+  coherent-target id i = (λ n. forth (target-available id .0 n), λ c. target-available id .1 (back c))
     where
+      back : Coherent T id → Available T id
+      back c = record {
+        there = c .there;
+        kept = c .kept;
+        provided = λ p m.
+            let k : Linked (T .links) id p = c .covers p m in
+            (providerIn (k .link), rw (k .of-port) at ((c .targets (k .link) (k .among) (k .is-live) (k .of-consumer)) .0));
+      }
+
       forth : Available T id → Coherent T id
       forth a = record {
         there = a .there;
         kept = a .kept;
         targets = λ l m v e.
-            let w : LiveOk (T .nodes) (T .declarations) (l .consumer) (l .binding) = facts S T h .safe .live l m v in
-            let n : List·Memᴰ (dependency id (portOf (l .binding))) (T .declarations) = rw e at (w .needed) in
-            let (o, x) = a .provided (portOf (l .binding)) n in
-            let s : o ≡ l .binding .provider = facts S T h .safe .unique (provision o (portOf (l .binding))) (provision (l .binding .provider) (portOf (l .binding))) (at-in (T .declarations) (x .4 .0) _ (x .4 .1)) (w .offered) refl refl (to-present T o (x .0, x .1, x .2)) (w .provider-present) refl in
+            let w : LiveOk (T .nodes) (T .declarations) (consumerIn l) (bindingIn l) = facts S T h .safe .live l m v in
+            let n : List·Memᴰ (dependency id (portIn l)) (T .declarations) = rw e at (w .needed) in
+            let (o, x) = a .provided (portIn l) n in
+            let mine = provision o (portIn l) in
+            let its = provision (providerIn l) (portIn l) in
+            let s : o ≡ providerIn l = facts S T h .safe .unique mine its (at-in (T .declarations) (x .4 .0) _ (x .4 .1)) (w .offered) refl refl (to-present T o (x .0, x .1, x .2)) (w .provider-present) refl in
             (rw s at x, n);
         covers = λ p m. facts S T h .covered (dependency id p) m refl (a .there) i;
       }
@@ -118,16 +108,16 @@ module _ (S : Sizes) (T : Tables) (h : sound S T ≡ true) where
 -- ---- committed
 
 -- each binding of committed is that of a live link of the consumer, and each such binding is in it
-pub committed-recorded : (ls : List Link) (id : ℕ) (b : Binding) → List·Memᴰ b (committed ls id) → (l : Link) × List·Memᴰ l ls × (l .live ≡ true) × (l .consumer ≡ id) × (b ≡ l .binding)
+pub committed-recorded : (ls : List Link) (id : ℕ) (b : Binding) → List·Memᴰ b (committed ls id) → (l : Link) × List·Memᴰ l ls × (l .live ≡ true) × (consumerIn l ≡ id) × (b ≡ bindingIn l)
 unfolding committed
 committed-recorded ls id b m =
-    let (l, n, e) = in-map (λ l. l .binding) (keep (isLiveLinkOf id) ls) m in
+    let (l, n, e) = in-map bindingIn (keep (isLiveLinkOf id) ls) m in
     let (i, h) = in-keep (isLiveLinkOf id) ls n in
     (l, i, (live-link-of id l h) .0, (live-link-of id l h) .1, e)
 
-pub recorded-committed : (ls : List Link) (id : ℕ) (l : Link) → List·Memᴰ l ls → l .live ≡ true → l .consumer ≡ id → List·Memᴰ (l .binding) (committed ls id)
+pub recorded-committed : (ls : List Link) (id : ℕ) (l : Link) → List·Memᴰ l ls → l .live ≡ true → consumerIn l ≡ id → List·Memᴰ (bindingIn l) (committed ls id)
 unfolding committed isLiveLinkOf
-recorded-committed ls id l m v e = map-in (λ (l : Link). l .binding) (keep-in (isLiveLinkOf id) m (and-i (l .live) _ v (eq-eqb _ _ e)))
+recorded-committed ls id l m v e = map-in bindingIn (keep-in (isLiveLinkOf id) m (and-i (l .live) _ v (eq-eqb _ _ e)))
 
 -- ---- provisions_available
 
@@ -136,7 +126,9 @@ pub distinct-places : (ps : List Port) → distinct ps ≡ true → (i j : ℕ) 
 unfolding distinct
 distinct-places [] h i j p q a b l e = absurd (omega (arith, a .0))
 distinct-places (x ∷ xs) h i zero p q a b l e = absurd (omega arith)
-distinct-places (x ∷ xs) h zero (suc j) p q a b l e = clash {A = ⊥} (samePort x q) (subst (λ (z : Port). samePort x z ≡ true) (a .1 ∙ e) (port-same x)) (none-in (samePort x) (at-in xs j q (omega (arith, b .0), b .1)) (not-t _ (and-l (not (any (samePort x) xs)) _ h)))
+distinct-places (x ∷ xs) h zero (suc j) p q a b l e =
+    let other = none-in (samePort x) (at-in xs j q (omega (arith, b .0), b .1)) (not-t _ (and-l (not (any (samePort x) xs)) _ h)) in
+    clash {A = ⊥} (samePort x q) (subst (λ (z : Port). samePort x z ≡ true) (a .1 ∙ e) (port-same x)) other
 distinct-places (x ∷ xs) h (suc i) (suc j) p q a b l e = distinct-places xs (and-r (not (any (samePort x) xs)) _ h) i j p q (omega (arith, a .0), a .1) (omega (arith, b .0), b .1) (omega arith) e
 
 pub places-distinct : (ps : List Port) → ((i j : ℕ) (p q : Port) → At ps i p → At ps j q → i < j → p ≡ q → ⊥) → distinct ps ≡ true
@@ -151,7 +143,7 @@ pub taken-by : (T : Tables) (p : Port) → taken T p ≡ true → (o : ℕ) × (
 unfolding taken takenBy
 taken-by T p h =
     let (d, m, e) = any-in (takenBy (present (T .nodes)) p) (T .declarations) h in
-    let b : d .provides && samePort (d .port) p ≡ true = and-l (d .provides && samePort (d .port) p) _ e in
+    let b : d .provides && samePort (declaredPort d) p ≡ true = and-l (d .provides && samePort (declaredPort d) p) _ e in
     let x : d .provides ≡ true = and-l (d .provides) _ b in
-    let y : d .port ≡ p = same-port _ _ (and-r (d .provides) _ b) in
-    (d .owner, and-r (d .provides && samePort (d .port) p) _ e, Memᴰ·cast (sym (λ i. record { owner = d .owner; port = y i; provides = x i })) m)
+    let y : declaredPort d ≡ p = same-port _ _ (and-r (d .provides) _ b) in
+    (ownerIn d, and-r (d .provides && samePort (declaredPort d) p) _ e, Memᴰ·cast (sym (declaration-is refl y x)) m)

@@ -1,23 +1,9 @@
 -- The subject of an accepted command after it: phase, retired, restoring, present, generation.
-use mathlib.Core.Path.{_≡_, ap, refl}
-use mathlib.Core.Bool.{cond, false, true}
-use mathlib.Core.List.{List}
-use mathlib.Core.Option.{none, some}
-use Prim.Native.Nat.{suc, ℕ}
-use lib.ListN.{length}
-use Rattle.model.specs.declared.Node.{Node}
-use Rattle.model.specs.declared.Parent.{Parent}
-use Rattle.model.specs.declared.Phase.{Phase}
-use Rattle.model.specs.declared.PortList.{PortList}
-use Rattle.model.proofs.Laws.Booleans.{not-f}
-use Rattle.model.proofs.Theorems.Upstream.Frames.{field-kept, subject-after}
-use Rattle.model.proofs.Theorems.Upstream.Replies.{accepted-step, accepts}
-use Rattle.model.specs.Commands.{Command, step}
-use Rattle.model.specs.Observers.{cleanupStarted, contains, phase, retired}
-use Rattle.model.specs.Records.{newNode}
-use Rattle.model.specs.Refusals.{Reply, accepted}
-use Rattle.model.specs.Sizes.{Sizes}
-use Rattle.model.specs.Tables.{Tables, nodeAt, present}
+use mathlib.Core.{Bool.cond, Bool.false, Bool.true, List.List, Option.none, Option.some, Path._∙_, Path._≡_, Path.ap, Path.refl}
+use Prim.Native.{Nat.suc, Nat.ℕ}
+use lib.{ListN.length}
+use Rattle.model.specs.{Commands.Command, Commands.step, Observers.cleanupStarted, Observers.contains, Observers.phase, Observers.retired, Records.newNode, Records.parentIn, Refusals.Reply, Refusals.accepted, Sizes.Sizes, Tables.Tables, Tables.nodeAt, Tables.present, declared.Parent.Parent, declared.Phase.Phase, declared.PortList.PortList, declared.records.Node.Node}
+use Rattle.model.proofs.{Laws.Booleans.not-f, Laws.Records.parent-read, Theorems.Upstream.Frames.field-kept, Theorems.Upstream.Frames.subject-after, Theorems.Upstream.Replies.accepted-step, Theorems.Upstream.Replies.accepts}
 
 -- what the observer gives of a present node
 phase-is : (ns : List Node) (id : ℕ) (n : Node) → nodeAt ns id ≡ n → n .present ≡ true → cond (present ns id) (some ((nodeAt ns id) .phase)) none ≡ some (n .phase)
@@ -70,5 +56,5 @@ module _ (S : Sizes) (T : Tables) (q : Parent) (ds ps : PortList) (h : accepted 
   pub inserted-not-retired : retired ((step S T (Command.insert q ds ps)) .tables) (length (T .nodes)) ≡ false
   inserted-not-retired = rw (subject-after S T (Command.insert q ds ps) h, present)
 
-  pub inserted-parent : (nodeAt ((step S T (Command.insert q ds ps)) .tables .nodes) (length (T .nodes))) .parent ≡ q
-  inserted-parent = ap (λ (n : Node). n .parent) (subject-after S T (Command.insert q ds ps) h)
+  pub inserted-parent : parentIn (nodeAt ((step S T (Command.insert q ds ps)) .tables .nodes) (length (T .nodes))) ≡ q
+  inserted-parent = ap (λ (n : Node). parentIn n) (subject-after S T (Command.insert q ds ps) h) ∙ parent-read q

@@ -1,17 +1,9 @@
 -- Accepted and refused: a command is accepted exactly if no test of its row applies, and a refused one changes nothing.
-use mathlib.Core.Path.{_≡_, refl}
-use mathlib.Core.Bool.{Bool, false, not, true}
-use mathlib.Core.Logic.{_↔_}
-use lib.Dec.{eqb}
-use borrow.Author.Tests.{eq-eqb}
-use Rattle.model.specs.declared.Error.{Error}
-use Rattle.model.proofs.Laws.Booleans.{clash}
-use Rattle.model.proofs.Laws.Refusals.{Passed, first-among, of-passed, report-accepts, step-cases}
-use Rattle.model.specs.Commands.{Command, report, result, settle, step, tests}
-use Rattle.model.specs.Lists.{all}
-use Rattle.model.specs.Refusals.{Reply, accepted, number}
-use Rattle.model.specs.Sizes.{Sizes}
-use Rattle.model.specs.Tables.{Tables}
+use mathlib.Core.{Bool.Bool, Bool.false, Bool.not, Bool.true, Logic._↔_, Path._≡_, Path.refl}
+use lib.{Dec.eqb}
+use borrow.{Author.Tests.eq-eqb}
+use Rattle.model.specs.{Commands.Command, Commands.report, Commands.result, Commands.settle, Commands.step, Commands.tests, Lists.all, Refusals.Reply, Refusals.accepted, Refusals.number, Sizes.Sizes, Tables.Tables, declared.Error.Error}
+use Rattle.model.proofs.{Laws.Booleans.clash, Laws.Refusals.Passed, Laws.Refusals.first-among, Laws.Refusals.of-passed, Laws.Refusals.report-accepts, Laws.Refusals.step-cases}
 
 module _ (S : Sizes) (T : Tables) (c : Command) where
   pub accepted-step : Passed (tests S T c) → step S T c ≡ record { tables = result T c; reply = report T c }

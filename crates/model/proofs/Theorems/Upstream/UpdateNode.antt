@@ -1,37 +1,22 @@
 -- The original's clauses about update_node, of the definition `updateNode`.
-use mathlib.Core.Path.{_≡_, ap, refl, sym}
-use mathlib.Core.Bool.{and-false, false, not, true}
-use mathlib.Core.List.{List·Memᴰ}
-use mathlib.Core.Option.{Option, none, some}
-use mathlib.Core.Logic.{_↔_}
-use Prim.Native.Nat.{ℕ}
-use lib.Dec.{eqb}
-use lib.ListN.{length, length-set, set}
-use borrow.Author.Tests.{ne-eqb}
-use Rattle.model.specs.declared.Error.{Error}
-use Rattle.model.specs.declared.Link.{Link}
-use Rattle.model.specs.declared.Node.{Node}
-use Rattle.model.specs.declared.Parent.{Parent}
-use Rattle.model.proofs.Laws.Booleans.{and-l, clash}
-use Rattle.model.proofs.Laws.Entry.{refuted}
-use Rattle.model.proofs.Laws.Facts.{safe-of}
-use Rattle.model.proofs.Laws.Lists.{any-in}
-use Rattle.model.proofs.Laws.Nodes.{at-other}
-use Rattle.model.proofs.Laws.Phases.{unloading-installed}
-use Rattle.model.proofs.Laws.Refusals.{Passed, first-among, of-passed, passed}
-use Rattle.model.proofs.Laws.Update.{calm}
-use Rattle.model.proofs.Theorems.UpdateNode.{no-child, update-accepts}
-use Rattle.model.specs.Commands.{Outcome, settle, updateNode}
-use Rattle.model.specs.Lists.{all, any}
-use Rattle.model.specs.Records.{isChildOf, isInactive, isUnloading}
-use Rattle.model.specs.Refusals.{Reply, accepted, first, number}
-use Rattle.model.specs.Soundness.{safetyWf}
-use Rattle.model.specs.Tables.{Tables, nodeAt, present, withNode}
-use Rattle.model.specs.UpdateNode.{blocks, updateTests}
+use mathlib.Core.{Bool.and-false, Bool.false, Bool.not, Bool.true, List.List·Memᴰ, Logic._↔_, Option.Option, Option.none, Option.some, Path._≡_, Path.ap, Path.refl, Path.sym}
+use Prim.Native.{Nat.ℕ}
+use lib.{Dec.eqb, ListN.length, ListN.length-set, ListN.set}
+use borrow.{Author.Tests.ne-eqb}
+use Rattle.model.specs.{Commands.Outcome, Commands.settle, Commands.updateNode, Lists.all, Lists.any, Records.consumerIn, Records.isChildOf, Records.isInactive, Records.isUnloading, Records.parentIn, Records.providerIn, Refusals.Reply, Refusals.accepted, Refusals.first, Refusals.number, Soundness.safetyWf, Tables.Tables, Tables.nodeAt, Tables.present, Tables.withNode, UpdateNode.blocks, UpdateNode.updateTests, declared.Error.Error, declared.Parent.Parent, declared.records.Link.Link, declared.records.Node.Node}
+use Rattle.model.proofs.{Laws.Booleans.and-l, Laws.Booleans.clash, Laws.Entry.refuted, Laws.Facts.safe-of, Laws.Lists.any-in, Laws.Nodes.at-other, Laws.Phases.unloading-installed, Laws.Refusals.Passed, Laws.Refusals.first-among, Laws.Refusals.of-passed, Laws.Refusals.passed, Laws.Update.calm, Theorems.UpdateNode.no-child, Theorems.UpdateNode.update-accepts}
+
+-- no live link is so
+abbrev OfNoLive : Tables → (Link → Type 0) → Type 0
+OfNoLive T P = (l : Link) → List·Memᴰ l (T .links) → l .live ≡ true → P l → ⊥
 
 module _ (T : Tables) (id : ℕ) (n : Node) where
   -- refused or accepted
-  updated-cases : (P : Outcome → Type 0) → ((e : Error) → first (updateTests T id n) ≡ some e → P (record { tables = T; reply = Reply.refused e })) → (Passed (updateTests T id n) → P (record { tables = withNode T id n; reply = Reply.done })) → P (updateNode T id n)
+  updated-cases :
+      (P : Outcome → Type 0)
+      → ((e : Error) → first (updateTests T id n) ≡ some e → P (record { tables = T; reply = Reply.refused e }))
+      → (Passed (updateTests T id n) → P (record { tables = withNode T id n; reply = Reply.done }))
+      → P (updateNode T id n)
   unfolding updateNode settle
   updated-cases P p f = go (first (updateTests T id n)) refl
     where
@@ -69,11 +54,20 @@ module _ (T : Tables) (id : ℕ) (n : Node) where
   update-others i d = updated-cases (λ o. nodeAt (o .tables .nodes) i ≡ nodeAt (T .nodes) i) (λ e h. refl) (λ p. at-other (T .nodes) id i n d)
 
   -- accepted: a node that stays present, installed and with its parent, and is not restoring
-  pub update-installed : safetyWf T ≡ true → present (T .nodes) id ≡ true → n .present ≡ true → n .restoring ≡ false → not (isInactive (n .phase)) ≡ true → n .parent ≡ (nodeAt (T .nodes) id) .parent → accepted ((updateNode T id n) .reply) ≡ true
+  pub update-installed :
+      safetyWf T ≡ true → present (T .nodes) id ≡ true
+      → n .present ≡ true → n .restoring ≡ false → not (isInactive (n .phase)) ≡ true
+      → parentIn n ≡ parentIn (nodeAt (T .nodes) id)
+      → accepted ((updateNode T id n) .reply) ≡ true
   update-installed s t p r i q = update-done .1 (passed _ (update-accepts T id n (calm T id n (safe-of T s) t q p (λ x. i) (λ x. clash _ x r)) p))
 
   -- accepted: a restoring node on which no live link relies
-  pub update-restoring : safetyWf T ≡ true → present (T .nodes) id ≡ true → n .present ≡ true → isUnloading (n .phase) ≡ true → n .parent ≡ (nodeAt (T .nodes) id) .parent → ((l : Link) → List·Memᴰ l (T .links) → l .live ≡ true → l .binding .provider ≡ id → ⊥) → accepted ((updateNode T id n) .reply) ≡ true
+  pub update-restoring :
+      safetyWf T ≡ true → present (T .nodes) id ≡ true
+      → n .present ≡ true → isUnloading (n .phase) ≡ true
+      → parentIn n ≡ parentIn (nodeAt (T .nodes) id)
+      → OfNoLive T (λ l. providerIn l ≡ id)
+      → accepted ((updateNode T id n) .reply) ≡ true
   update-restoring s t p u q f = update-done .1 (passed _ (update-accepts T id n (record {
     there = t;
     parent-ok = λ a. rw q (safe-of T s .nodes id .parent-ok t);
@@ -86,10 +80,33 @@ module _ (T : Tables) (id : ℕ) (n : Node) where
   }) p))
 
   -- accepted: an absent node without present children and live links
-  pub update-absent : present (T .nodes) id ≡ true → n .present ≡ false → isInactive (n .phase) ≡ true → n .restoring ≡ false → any (isChildOf id) (T .nodes) ≡ false → ((l : Link) → List·Memᴰ l (T .links) → l .live ≡ true → (l .consumer ≡ id → ⊥) × (l .binding .provider ≡ id → ⊥)) → accepted ((updateNode T id n) .reply) ≡ true
+  pub update-absent :
+      present (T .nodes) id ≡ true
+      → n .present ≡ false → isInactive (n .phase) ≡ true → n .restoring ≡ false
+      → any (isChildOf id) (T .nodes) ≡ false
+      → ((l : Link) → List·Memᴰ l (T .links) → l .live ≡ true → (consumerIn l ≡ id → ⊥) × (providerIn l ≡ id → ⊥))
+      → accepted ((updateNode T id n) .reply) ≡ true
   unfolding blocks
-  update-absent t p i r c f = update-done .1 (rw t, (rw (p, i, r), (rw p, (rw (p, c), (refuted _ (λ h. let (l, m, e) = any-in (blocks id n) (T .links) h in let (x, y) = f l m (and-l (l .live) _ e) in clash {A = ⊥} _ e (rw (ne-eqb _ _ x, ne-eqb _ _ y, and-false (l .live)))), tt)))))
+  update-absent t p i r c f = update-done .1 (
+    rw t,
+    (
+      rw (p, i, r),
+      (
+        rw p,
+        (
+          rw (p, c),
+          (
+            refuted _ (λ h.
+                let (l, m, e) = any-in (blocks id n) (T .links) h in
+                let (x, y) = f l m (and-l (l .live) _ e) in
+                clash {A = ⊥} _ e (rw (ne-eqb _ _ x, ne-eqb _ _ y, and-false (l .live)))),
+            tt,
+          ),
+        ),
+      ),
+    ),
+  )
 
   -- an absent node is accepted only without present children
-  pub update-childless : accepted ((updateNode T id n) .reply) ≡ true → n .present ≡ false → (i : ℕ) → present (T .nodes) i ≡ true → (nodeAt (T .nodes) i) .parent ≡ Parent.Of id → ⊥
+  pub update-childless : accepted ((updateNode T id n) .reply) ≡ true → n .present ≡ false → (i : ℕ) → present (T .nodes) i ≡ true → parentIn (nodeAt (T .nodes) i) ≡ Parent.Of id → ⊥
   update-childless h p i = no-child T id i (rw p at ((update-done .0 h) .1 .1 .1 .0))

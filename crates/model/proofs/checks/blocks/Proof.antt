@@ -1,15 +1,18 @@
 -- `model::checks::blocks` meets its contract.
-use borrow.Author.Needs.{needs}
-use Rattle.model.specs.UpdateNode.{blocks}
-use Rattle.model.proofs.checks.blocks.Statement.{statement}
+use borrow.{Author.Needs.needs}
+use Rattle.model.specs.{UpdateNode.blocks}
+use Rattle.model.proofs.{checks.blocks.Statement.statement}
 use Rattle.model.proofs.checks.blocks.Tie as tie
-
-is-inactive-requires : tie.Need-is-inactive-requires
-is-inactive-requires c κs = search needs
 
 returns : tie.Need-returns
 unfolding blocks
-returns c = rw (c .before .before .before .before .before .before .is-inactive .ensures)
+returns c = cc
 
 pub blocks-spec : {M : Type 1} → statement M
-blocks-spec = tie.close (tie.spec is-inactive-requires returns)
+blocks-spec =
+    tie.close
+    (tie.spec
+    (λ c κs. search needs)  -- is-inactive-requires
+    (λ c κs. search needs)  -- consumer-in-requires
+    (λ c κs. search needs)  -- provider-in-requires
+    returns)

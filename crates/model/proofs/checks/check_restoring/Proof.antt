@@ -1,6 +1,6 @@
 -- `model::checks::check_restoring` meets its contract.
-use Rattle.model.specs.Refusals.{first}
-use Rattle.model.proofs.checks.check_restoring.Statement.{statement}
+use Rattle.model.specs.{Refusals.first}
+use Rattle.model.proofs.{checks.check_restoring.Statement.statement}
 use Rattle.model.proofs.checks.check_restoring.Tie as tie
 
 returns : tie.Need-returns

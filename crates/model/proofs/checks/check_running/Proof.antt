@@ -1,7 +1,7 @@
 -- `model::checks::check_running` meets its contract.
-use borrow.Author.Needs.{needs}
-use Rattle.model.specs.Refusals.{first}
-use Rattle.model.proofs.checks.check_running.Statement.{statement}
+use borrow.{Author.Needs.needs}
+use Rattle.model.specs.{Refusals.first}
+use Rattle.model.proofs.{checks.check_running.Statement.statement}
 use Rattle.model.proofs.checks.check_running.Tie as tie
 
 returns : tie.Need-returns

@@ -1,142 +1,80 @@
 -- `scans::resolution::target_in` meets its contract. The bindings so far and those of the rows that are left are the bindings of all the rows.
-use mathlib.Core.Path.{_∙_, _≡_, refl}
-use mathlib.Core.List.{List, [], _++_, _∷_}
-use mathlib.Core.Option.{none, some}
-use mathlib.Core.Logic.{⊎-elim}
-use Prim.Native.Nat.{_-_, _≤_}
-use native.Mathlib.Omega.{arith}
-use lib.ListN.{length, length-append, take}
-use lib.Seq.{slice}
-use borrow.Author.Needs.{needs}
-use Rattle.model.specs.declared.Binding.{Binding}
-use Rattle.model.proofs.Laws.Arrays.{snoc-padded}
-use Rattle.model.specs.Lists.{padded}
-use Rattle.model.specs.Records.{bindingOf, blankBinding}
-use Rattle.model.specs.Resolution.{bindPorts, dependencyPorts, isDependencyOf, resolve}
-use Rattle.scans.proofs.Laws.Columns.{rows-most, rows-next}
-use Rattle.scans.proofs.Laws.Resolving.{after, after-nothing, bind-done, bind-none, bind-skip, bind-take, found, not-found}
-use Rattle.scans.proofs.Laws.Scan.{part-done}
-use Rattle.scans.specs.Columns.{declarationAt, declarationsOf, flag}
-use Rattle.scans.proofs.resolution.target_in.Statement.{statement}
+use mathlib.Core.{Bool.Bool, List.List, Logic.⊎-elim, Option.Option, Path._∙_, Path.ap}
+use Prim.Native.{Nat._-_, Nat.ℕ}
+use native.Mathlib.{Omega.arith}
+use lib.{ListN.set, ListN.take}
+use borrow.{Author.Needs.needs}
+use Rattle.model.specs.{Lists.padded, Records.bindingOf, Records.blankBinding, Records.declaredPort, Resolution.bindPorts, Resolution.dependencyPorts, Resolution.isDependencyOf, Resolution.resolve, declared.Port.Port, declared.records.Declaration.Declaration}
+use Rattle.loops.proofs.{Laws.Collecting.Collecting, Laws.Collecting.collect-skip, Laws.Collecting.collect-start, Laws.Collecting.collect-take, Laws.Resolving.bind-end, Laws.Resolving.bind-none, Laws.Resolving.bind-skip, Laws.Resolving.bind-start, Laws.Resolving.bind-take, Laws.Resolving.bound, Laws.Resolving.found, Laws.Resolving.not-found}
+use Rattle.loops.specs.{Columns.declarationAt, Columns.declarationsOf, Columns.flag, Columns.rowsFrom}
+use Rattle.scans.proofs.{resolution.target_in.Statement.statement}
 use Rattle.scans.proofs.resolution.target_in.Tie as tie
+use Rattle.sizes.specs.{Sizes.DECLARATIONS, Sizes.IDENTITIES}
+
+-- the provider of a port, by the rows below the count
+abbrev resolver : (ℕ → Declaration) → List Bool → ℕ → Port → Option ℕ
+resolver row providing count = resolve (flag IDENTITIES providing) (take count (rowsFrom 0 DECLARATIONS row))
 
 abbrev Inv-loop : tie.InvT-loop
 Inv-loop owner key realm provides providing count id end blank bindings₀ n₀ i₀ bindings n i =
-    (acc : List Binding)
-    × (bindings ≡ padded 256 blankBinding acc)
-    × (n ≡ length acc)
-    × (n ≤ i)
-    × (bindPorts (resolve (flag 64 providing) (take count (declarationsOf 256 owner key realm provides))) (dependencyPorts (take count (declarationsOf 256 owner key realm provides)) id) ≡ after acc (bindPorts (resolve (flag 64 providing) (take count (declarationsOf 256 owner key realm provides))) (dependencyPorts (slice i end (declarationsOf 256 owner key realm provides)) id)))
+    let row = declarationAt owner key realm provides in
+    let r = resolver row providing count in
+    Collecting DECLARATIONS blankBinding bindings n i (bound r id DECLARATIONS row end i) (bindPorts r (dependencyPorts (take count (rowsFrom 0 DECLARATIONS row)) id))
 
 abbrev μ-loop : tie.MeasureT-loop
 μ-loop owner key realm provides providing count id end blank bindings₀ n₀ i₀ bindings n i = end - i
 
-at-most-requires : tie.Need-at-most-requires Inv-loop μ-loop
-at-most-requires c κs = search needs
+-- what it is asked
+module _ (s : tie.Start Inv-loop μ-loop) where
+  abbrev row : ℕ → Declaration
+  row = declarationAt (s .args .owner .now) (s .args .key .now) (s .args .realm .now) (s .args .provides .now)
 
-blank-binding-requires : tie.Need-blank-binding-requires Inv-loop μ-loop
-blank-binding-requires c κs = search needs
+  abbrev r : Port → Option ℕ
+  r = resolver row (s .args .providing .now) (s .args .count)
 
-loop-holds : tie.Need-loop-holds Inv-loop μ-loop
-unfolding padded declarationsOf
-loop-holds c =
-    let a = c .before .before .args in
-    ([], rw (c .blank-binding .ensures), refl, omega arith, rw (rows-most (a .count) 256 _ (declarationAt (a .owner .now) (a .key .now) (a .realm .now) (a .provides .now)) (c .before .at-most .ensures)) (after-nothing _))
+-- in a turn
+module _ (n : tie.In-loop Inv-loop μ-loop) where
+  abbrev cut : tie.After-at-most Inv-loop μ-loop
+  cut = n .before .before .before
 
-element-copy-out-if1 : tie.Need-element-copy-out-if1 Inv-loop μ-loop
-element-copy-out-if1 c = omega arith
-
-mul-if1 : tie.Need-mul-if1 Inv-loop μ-loop
-mul-if1 c = omega arith
-
-element-copy-out-if1-2 : tie.Need-element-copy-out-if1-2 Inv-loop μ-loop
-element-copy-out-if1-2 c = omega arith
-
-mul-t25 : tie.Need-mul-t25 Inv-loop μ-loop
-mul-t25 c = omega arith
-
-element-copy-out-t28 : tie.Need-element-copy-out-t28 Inv-loop μ-loop
-element-copy-out-t28 c = omega arith
-
-mul-t29 : tie.Need-mul-t29 Inv-loop μ-loop
-mul-t29 c = omega arith
-
-element-copy-out-t32 : tie.Need-element-copy-out-t32 Inv-loop μ-loop
-element-copy-out-t32 c = omega arith
-
-resolve-in-requires : tie.Need-resolve-in-requires Inv-loop μ-loop
-resolve-in-requires c κs = search needs
-
-enum-known-p : tie.Need-enum-known-p Inv-loop μ-loop
-enum-known-p c = search needs
-
-enum-told : tie.Need-enum-told Inv-loop μ-loop
-enum-told c = search needs
+  abbrev s : tie.Start Inv-loop μ-loop
+  s = cut .before
 
 returns : tie.Need-returns Inv-loop μ-loop
 unfolding isDependencyOf padded declarationsOf
 returns c =
-    let a = c .before .before .before .before .before .before .before .before .before .before .before .before .args in
-    let j = c .before .before .before .before .before .before .before .before .before .loop in
-    let rows = declarationsOf 256 (a .owner .now) (a .key .now) (a .realm .now) (a .provides .now) in
-    let f = resolve (flag 64 (a .providing .now)) (take (a .count) rows) in
-    let whole = bindPorts f (dependencyPorts (take (a .count) rows) (a .id)) in
-    let row = declarationAt (a .owner .now) (a .key .now) (a .realm .now) (a .provides .now) in
-    let d = row (j .i) in
-    let e : whole ≡ none = bind-none f (a .id) d _ _ _ whole (rows-next 256 (j .i) (c .before .before .before .before .before .before .before .before .before .before .before .at-most .result) row (omega arith) (omega arith)) (j .inv .4) (c .before .before .before .before .before .if1 .taken) (not-found (c .before .before .resolve-in .result) (f (d .port)) (c .before .before .resolve-in .ensures) (c .enum-told .given .1)) in
-    rw (e, c .before .before .before .before .before .before .before .before .before .before .blank-binding .ensures)
-
-binding-of-requires : tie.Need-binding-of-requires Inv-loop μ-loop
-binding-of-requires c κs = search needs
-
-mul-bindings : tie.Need-mul-bindings Inv-loop μ-loop
-mul-bindings c = omega arith
-
-array-set-from-bindings : tie.Need-array-set-from-bindings Inv-loop μ-loop
-array-set-from-bindings c = omega arith
-
-add-n : tie.Need-add-n Inv-loop μ-loop
-add-n c = omega arith
-
-add-i : tie.Need-add-i Inv-loop μ-loop
-add-i c = omega arith
-
-loop-less : tie.Need-loop-less Inv-loop μ-loop
-loop-less c = omega arith
+    let v = c .before .before in
+    let t = v .before .before .before in
+    let n = t .before .before .before in
+    let j = n .before .loop in
+    let none-found = not-found (v .resolve-in .result) (r (s n) (row (s n) (j .i) .port)) (v .resolve-in .ensures) (c .enum-told .given .1) in
+    let stops = bind-none (r (s n)) (s n .args .id) DECLARATIONS (row (s n)) (cut n .at-most .result) (j .i) (omega arith) (omega arith) (t .if1 .taken) none-found (j .inv .kept) in
+    rw (j .inv .whole ∙ stops, n .before .before .blank-binding .ensures)
 
 loop-again : tie.Need-loop-again Inv-loop μ-loop
 unfolding isDependencyOf declarationsOf
 loop-again c =
-    let a = c .before .before .before .before .before .before .before .args in
-    let j = c .before .before .before .before .loop in
-    let rows = declarationsOf 256 (a .owner .now) (a .key .now) (a .realm .now) (a .provides .now) in
-    let f = resolve (flag 64 (a .providing .now)) (take (a .count) rows) in
-    let whole = bindPorts f (dependencyPorts (take (a .count) rows) (a .id)) in
-    let row = declarationAt (a .owner .now) (a .key .now) (a .realm .now) (a .provides .now) in
-    let d = row (j .i) in
-    let acc = j .inv .0 in
-    let next = rows-next 256 (j .i) (c .before .before .before .before .before .before .at-most .result) row (omega arith) (omega arith) in
+    let n = c .before .before .before in
+    let j = n .before .loop in
+    let d = row (s n) (j .i) in
+    let id = s n .args .id in
+    let end = cut n .at-most .result in
     ⊎-elim
     (λ w.
-    let b = bindingOf (d .port) (w .5 .given .0 .0) in (
-      acc ++ (b ∷ []),
-      rw (w .8, j .inv .1, j .inv .2, w .7 .ensures) (snoc-padded 256 blankBinding acc b (omega arith)),
-      omega (arith, length-append acc (b ∷ [])),
-      omega arith,
-      bind-take f (a .id) d _ _ acc whole _ next (j .inv .4) (w .0 .taken) (found (w .3 .result) (f (d .port)) _ (w .3 .ensures) (w .5 .given .1)),
-    ))
-    (λ w. (acc, w .1 ∙ j .inv .1, w .2 ∙ j .inv .2, omega arith, bind-skip f (a .id) d _ _ acc whole next (j .inv .4) (w .0 .left)))
+    let o = w .5 .given .0 .0 in
+    let q = found (w .3 .result) (r (s n) (declaredPort d)) o (w .3 .ensures) (w .5 .given .1) in
+    let more = bind-take (r (s n)) id DECLARATIONS (row (s n)) end (j .i) (omega arith) (omega arith) o (w .0 .taken) q in
+    collect-take (j .inv) (bindingOf (declaredPort d) o) (omega arith) more (w .8 ∙ ap (set (j .bindings) (j .n)) (w .7 .ensures)) (w .9))
+    (λ w. collect-skip (j .inv) (bind-skip (r (s n)) id DECLARATIONS (row (s n)) end (j .i) (omega arith) (omega arith) (w .0 .left)) (w .1) (w .2))
     (c .if1 .came)
 
 returns-2 : tie.Need-returns-2 Inv-loop μ-loop
+unfolding declarationsOf
 returns-2 c =
-    let a = c .before .before .before .before .args in
     let j = c .before .loop in
-    let rows = declarationsOf 256 (a .owner .now) (a .key .now) (a .realm .now) (a .provides .now) in
-    let f = resolve (flag 64 (a .providing .now)) (take (a .count) rows) in
-    let whole = bindPorts f (dependencyPorts (take (a .count) rows) (a .id)) in
-    let e : whole ≡ some (j .inv .0) = bind-done f (a .id) _ _ whole (part-done (j .i) (c .before .before .before .at-most .result) rows (c .loop-test .left)) (j .inv .4) in
-    rw (e, j .inv .1, j .inv .2)
+    let m = c .before .before .before in
+    let e = j .inv .whole ∙ bind-end (r (m .before)) (m .before .args .id) DECLARATIONS (row (m .before)) (m .at-most .result) (j .i) (c .loop-test .left) (j .inv .kept) in
+    rw (e, j .inv .holds, j .inv .counted)
 
 pub target-in-spec : {M : Type 1} → statement M
 target-in-spec =
@@ -144,25 +82,25 @@ target-in-spec =
     (tie.spec
     Inv-loop
     μ-loop
-    at-most-requires
-    blank-binding-requires
-    loop-holds
-    element-copy-out-if1
-    mul-if1
-    element-copy-out-if1-2
-    mul-t25
-    element-copy-out-t28
-    mul-t29
-    element-copy-out-t32
-    resolve-in-requires
-    enum-known-p
-    enum-told
+    (λ c κs. search needs)  -- at-most-requires
+    (λ c κs. search needs)  -- blank-binding-requires
+    (λ c. collect-start (c .blank-binding .ensures) (bind-start (r (c .before .before)) (c .before .before .args .id) (row (c .before .before)) (c .before .at-most .ensures)))  -- loop-holds
+    (λ c. omega arith)  -- element-copy-out-if1
+    (λ c. omega arith)  -- mul-if1
+    (λ c. omega arith)  -- element-copy-out-if1-2
+    (λ c. omega arith)  -- mul-t25
+    (λ c. omega arith)  -- element-copy-out-t28
+    (λ c. omega arith)  -- mul-t29
+    (λ c. omega arith)  -- element-copy-out-t32
+    (λ c κs. search needs)  -- resolve-in-requires
+    (λ c. search needs)  -- enum-known-p
+    (λ c. search needs)  -- enum-told
     returns
-    binding-of-requires
-    mul-bindings
-    array-set-from-bindings
-    add-n
-    add-i
-    loop-less
+    (λ c κs. search needs)  -- binding-of-requires
+    (λ c. omega arith)  -- mul-bindings
+    (λ c. omega arith)  -- array-set-from-bindings
+    (λ c. omega arith)  -- add-n
+    (λ c. omega arith)  -- add-i
+    (λ c. omega arith)  -- loop-less
     loop-again
     returns-2)

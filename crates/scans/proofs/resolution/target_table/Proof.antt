@@ -1,27 +1,30 @@
 -- `scans::resolution::target_table` meets its contract: the columns hold the table, and the flags what is asked of each node.
-use mathlib.Core.Path.{_≡_, ap}
-use mathlib.Core.List.{map}
-use borrow.Author.Needs.{needs}
-use Rattle.scans.specs.declared.NodeFlags.{NodeFlags}
-use Rattle.model.specs.Records.{isProviding}
-use Rattle.scans.proofs.resolution.target_table.Statement.{statement}
+use mathlib.Core.{List.map, Path._≡_, Path.ap}
+use borrow.{Author.Needs.needs}
+use Rattle.scans.specs.{declared.NodeFlags.NodeFlags}
+use Rattle.model.specs.{Records.isProviding}
+use Rattle.scans.proofs.{resolution.target_table.Statement.statement}
 use Rattle.scans.proofs.resolution.target_table.Tie as tie
 
-node-flags-requires : tie.Need-node-flags-requires
-node-flags-requires c κs = search needs
+-- the declarations written into columns, after the flags
+module _ (w : tie.After-declaration-columns) where
+  abbrev flags : tie.After-node-flags
+  flags = let blank = w .before in blank .before .before .before .before .before
 
-declaration-columns-requires : tie.Need-declaration-columns-requires
-declaration-columns-requires c κs = search needs
-
-target-in-requires : tie.Need-target-in-requires
-target-in-requires c κs = search needs
+  flagged : flags .node-flags .result .providing ≡ map isProviding (flags .before .args .nodes)
+  flagged = ap (λ (r : NodeFlags). r .providing) (flags .node-flags .ensures)
 
 returns : tie.Need-returns
 returns c =
-    let p : c .before .before .before .before .before .before .before .before .before .before .before .before .node-flags .result .providing ≡ map isProviding (c .before .before .before .before .before .before .before .before .before .before .before .before .before .args .nodes) = ap (λ (r : NodeFlags). r .providing) (c .before .before .before .before .before .before .before .before .before .before .before .before .node-flags .ensures) in
-    rw (c .before .before .before .before .before .before .declaration-columns .ensures .0, p) at (c .target-in .ensures)
+    let lent = c .before in
+    let w = lent .before .before .before .before .before in
+    rw (w .declaration-columns .ensures .0, flagged w) at (c .target-in .ensures)
 
 pub target-table-spec : {M : Type 1} → statement M
 target-table-spec =
     tie.close
-    (tie.spec node-flags-requires declaration-columns-requires target-in-requires returns)
+    (tie.spec
+    (λ c κs. search needs)  -- node-flags-requires
+    (λ c κs. search needs)  -- declaration-columns-requires
+    (λ c κs. search needs)  -- target-in-requires
+    returns)

@@ -1,85 +1,55 @@
 -- `scans::updates::update_node` meets its contract: what check_update answers, then the links.
-use mathlib.Core.Path.{_≡_, _∙_, ap, sym}
-use mathlib.Core.Bool.{false, true}
-use mathlib.Core.List.{[]}
-use mathlib.Core.Option.{Option}
-use Prim.Native.Nat.{_-_}
-use native.Mathlib.Omega.{arith}
-use lib.ListN.{take}
-use lib.Seq.{slice}
-use borrow.Author.Needs.{needs}
-use Rattle.model.specs.declared.Error.{Error}
-use Rattle.model.proofs.Laws.Refusals.{done-passed, of-passed, passed-first, refused-among, skip, stop}
-use Rattle.model.specs.Answers.{answer}
-use Rattle.model.specs.Lists.{any}
-use Rattle.model.specs.Records.{blankLink}
-use Rattle.model.specs.Refusals.{Reply, orElse}
-use Rattle.model.specs.UpdateNode.{blocks, updateNodeTests}
-use Rattle.scans.proofs.Laws.Scan.{any-done, any-hit, any-next, part-done, part-next, take-most}
-use Rattle.scans.proofs.updates.update_node.Statement.{statement}
+use mathlib.Core.{Bool.Bool, List.List, List.[], List._++_, Option.Option, Path._∙_, Path._≡_, Path.ap, Path.sym}
+use Prim.Native.{Nat._-_}
+use native.Mathlib.{Omega.arith}
+use lib.{ListN.take}
+use borrow.{Author.Needs.needs}
+use Rattle.model.specs.{Answers.answer, Lists.any, Records.blankLink, Refusals.Reply, Refusals.first, Refusals.orElse, UpdateNode.blocks, UpdateNode.updateNodeTests, declared.Answer.Answer, declared.Error.Error}
+use Rattle.model.proofs.{Laws.Refusals.done-passed, Laws.Refusals.of-passed, Laws.Refusals.passed-first, Laws.Refusals.refused-among, Laws.Refusals.skip, Laws.Refusals.stop}
+use Rattle.loops.proofs.{Laws.Scanning.Seeking, Laws.Scanning.seek-end, Laws.Scanning.seek-hit, Laws.Scanning.seek-on, Laws.Scanning.seek-start}
+use Rattle.scans.proofs.{updates.update_node.Statement.statement}
 use Rattle.scans.proofs.updates.update_node.Tie as tie
 
 abbrev Inv-loop : tie.InvT-loop
-Inv-loop issued linked id node links end i₀ i = any (blocks id node) (slice i end links) ≡ any (blocks id node) (take linked links)
+Inv-loop issued linked id node links end i₀ i = Seeking (blocks id node) links end i (any (blocks id node) (take linked links))
 
 abbrev μ-loop : tie.MeasureT-loop
 μ-loop issued linked id node links end i₀ i = end - i
 
-check-update-requires : tie.Need-check-update-requires Inv-loop μ-loop
-check-update-requires c κs = search needs
+-- what is answered where a test applies, and where none does
+abbrev answered : Option Error → Answer
+answered o = answer (orElse o Reply.done)
 
-enum-known-checked : tie.Need-enum-known-checked Inv-loop μ-loop
-enum-known-checked c = search needs
+-- the tests of the nodes
+abbrev row : tie.Start Inv-loop μ-loop → List (Bool × Error)
+row s = updateNodeTests (take (s .args .issued) (s .args .nodes)) (s .args .id) (s .args .node)
 
 returns : tie.Need-returns Inv-loop μ-loop
 returns c =
-    let a = c .before .before .before .before .args in
-    sym (ap (λ (o : Option Error). answer (orElse o Reply.done)) (refused-among (updateNodeTests (take (a .issued) (a .nodes)) (a .id) (a .node)) _ _ _ (c .before .before .before .check-update .ensures) (c .before .checked .given .1)))
+    let v = c .before .before .before in
+    sym (ap answered (refused-among (row (v .before)) _ _ _ (v .check-update .ensures) (c .before .checked .given .1)))
 
-enum-told : tie.Need-enum-told Inv-loop μ-loop
-enum-told c = search needs
+-- the tests of the nodes passed, at the links
+module _ (l : tie.At-loop Inv-loop μ-loop) where
+  abbrev told : tie.After-enum-told Inv-loop μ-loop
+  told = l .before .before
 
-at-most-requires : tie.Need-at-most-requires Inv-loop μ-loop
-at-most-requires c κs = search needs
+  abbrev checked : tie.After-check-update Inv-loop μ-loop
+  checked = told .before .before
 
-loop-holds : tie.Need-loop-holds Inv-loop μ-loop
-loop-holds c =
-    let a = c .before .before .before .before .args in
-    ap (any (blocks (a .id) (a .node))) (take-most (a .linked) 512 _ (a .t3) (omega arith) (c .at-most .ensures))
-
-mul-l : tie.Need-mul-l Inv-loop μ-loop
-mul-l c = omega arith
-
-array-copy-out-l : tie.Need-array-copy-out-l Inv-loop μ-loop
-array-copy-out-l c = omega arith
-
-blocks-requires : tie.Need-blocks-requires Inv-loop μ-loop
-blocks-requires c κs = search needs
+  passed : (us : List (Bool × Error)) → first (row (checked .before) ++ us) ≡ first us
+  passed us = passed-first (row (checked .before)) us (done-passed _ _ (checked .check-update .ensures) (told .enum-told .given .1))
 
 returns-2 : tie.Need-returns-2 Inv-loop μ-loop
 returns-2 c =
-    let a = c .before .before .before .before .before .before .before .before .before .args in
-    let j = c .before .before .before .before .loop in
-    let hit : any (blocks (a .id) (a .node)) (take (a .linked) (a .t3)) ≡ true = sym (any-hit (blocks (a .id) (a .node)) _ _ _ _ (part-next blankLink (j .i) (c .before .before .before .before .before .at-most .result) (a .t3) (omega arith) (omega arith)) (j .inv) (sym (c .before .blocks2 .ensures) ∙ c .if1 .taken)) in
-    sym (ap (λ (o : Option Error). answer (orElse o Reply.done)) (passed-first (updateNodeTests (take (a .issued) (a .nodes)) (a .id) (a .node)) _ (done-passed _ _ (c .before .before .before .before .before .before .before .before .check-update .ensures) (c .before .before .before .before .before .before .enum-told .given .1)) ∙ stop _ _ _ hit))
-
-add-i : tie.Need-add-i Inv-loop μ-loop
-add-i c = omega arith
-
-loop-less : tie.Need-loop-less Inv-loop μ-loop
-loop-less c = omega arith
-
-loop-again : tie.Need-loop-again Inv-loop μ-loop
-loop-again c =
-    let a = c .before .before .before .before .before .before .before .before .before .args in
-    let j = c .before .before .before .before .loop in
-    any-next (blocks (a .id) (a .node)) _ _ _ _ (part-next blankLink (j .i) (c .before .before .before .before .before .at-most .result) (a .t3) (omega arith) (omega arith)) (j .inv) (sym (c .before .blocks2 .ensures) ∙ c .if1 .left)
+    let l = c .before .before .before .before in
+    let hit = seek-hit (l .loop .inv) blankLink (omega arith) (cc) in
+    sym (ap answered (passed l _ ∙ stop _ _ _ (sym hit)))
 
 returns-3 : tie.Need-returns-3 Inv-loop μ-loop
 returns-3 c =
-    let a = c .before .before .before .before .before .before .args in
-    let none-blocks : any (blocks (a .id) (a .node)) (take (a .linked) (a .t3)) ≡ false = sym (any-done (blocks (a .id) (a .node)) _ _ (part-done (c .before .loop .i) (c .before .before .at-most .result) (a .t3) (c .loop-test .left)) (c .before .loop .inv)) in
-    sym (ap (λ (o : Option Error). answer (orElse o Reply.done)) (passed-first (updateNodeTests (take (a .issued) (a .nodes)) (a .id) (a .node)) _ (done-passed _ _ (c .before .before .before .before .before .check-update .ensures) (c .before .before .before .enum-told .given .1)) ∙ skip _ _ _ none-blocks ∙ of-passed [] tt))
+    let l = c .before in
+    sym (ap answered (passed l _ ∙ skip _ _ _ (sym (seek-end (l .loop .inv) (c .loop-test .left))) ∙ of-passed [] tt))
 
 pub update-node-spec : {M : Type 1} → statement M
 update-node-spec =
@@ -87,17 +57,17 @@ update-node-spec =
     (tie.spec
     Inv-loop
     μ-loop
-    check-update-requires
-    enum-known-checked
+    (λ c κs. search needs)  -- check-update-requires
+    (λ c. search needs)  -- enum-known-checked
     returns
-    enum-told
-    at-most-requires
-    loop-holds
-    mul-l
-    array-copy-out-l
-    blocks-requires
+    (λ c. search needs)  -- enum-told
+    (λ c κs. search needs)  -- at-most-requires
+    (λ c. seek-start (omega arith) (c .at-most .ensures))  -- loop-holds
+    (λ c. omega arith)  -- mul-l
+    (λ c. omega arith)  -- array-copy-out-l
+    (λ c κs. search needs)  -- blocks-requires
     returns-2
-    add-i
-    loop-less
-    loop-again
+    (λ c. omega arith)  -- add-i
+    (λ c. omega arith)  -- loop-less
+    (λ c. seek-on (search) blankLink (omega arith) (cc))  -- loop-again
     returns-3)

@@ -1,0 +1,85 @@
+// The checks and the observers, and the tables.
+use crate::state::State;
+use kernel::Kernel;
+use model::Answer;
+use text::made::identity_of;
+use text::made::parent_of;
+use text::made::port_of;
+use text::words::Line;
+
+fn holds(kernel: Kernel, line: Line) -> bool {
+    let id = identity_of(line.first);
+    let port = port_of(line.second, line.third);
+    let name = line.name;
+    match name {
+        23 => kernel.sound(),
+        24 => kernel.contains(id),
+        25 => kernel.retired(id),
+        26 => kernel.cleanup_started(id),
+        27 => kernel.dependency_declared(id, port),
+        _ => kernel.provision_reserved(id, port),
+    }
+}
+
+fn count(kernel: Kernel, line: Line) -> usize {
+    let name = line.name;
+    match name {
+        29 => kernel.binding_records(),
+        30 => kernel.identity_slots(),
+        _ => kernel.declaration_records(),
+    }
+}
+
+fn checked(state: State, line: Line) -> Answer {
+    let kernel = state.kernel;
+    if line.name == 33 {
+        return kernel.check_iteration(identity_of(line.first));
+    }
+    let above = parent_of(line.none, line.first);
+    let dependencies = state.dependencies;
+    let provisions = state.provisions;
+    kernel.check_insert(above, dependencies, provisions)
+}
+
+// Whether the kernel is sound, then its tables.
+fn tables(kernel: Kernel, out: &mut [u8], at: usize) -> usize {
+    let at = text::either(out, at, kernel.sound(), b" sound", b" not sound");
+    let at = text::end(out, at);
+    text::records::tables(out, at, kernel)
+}
+
+fn found(kernel: Kernel, line: Line, out: &mut [u8], at: usize) -> usize {
+    let id = identity_of(line.first);
+    let port = port_of(line.first, line.second);
+    let name = line.name;
+    match name {
+        34 => text::answers::phase(out, at, kernel.phase(id)),
+        35 => text::answers::generation(out, at, kernel.episode_generation(id)),
+        36 => text::answers::identities(out, at, kernel.ids()),
+        37 => text::answers::identities(out, at, kernel.children(id)),
+        38 => text::answers::resolution(out, at, kernel.resolve(port)),
+        39 => text::answers::target(out, at, kernel.target(id)),
+        40 => text::answers::committed(out, at, kernel.committed(id)),
+        _ => tables(kernel, out, at),
+    }
+}
+
+// The answer of an observer.
+fn observed(kernel: Kernel, line: Line, out: &mut [u8], at: usize) -> usize {
+    if line.name < 29 {
+        return text::either(out, at, holds(kernel, line), b" yes", b" no");
+    }
+    if line.name < 32 {
+        return text::field(out, at, count(kernel, line) as u64);
+    }
+    found(kernel, line, out, at)
+}
+
+// The answer to a question.
+pub fn answer(state: State, line: Line, out: &mut [u8]) -> usize {
+    if (line.name == 32) | (line.name == 33) {
+        return text::answers::answer(out, 0, model::answer_number(checked(state, line)));
+    }
+    let kernel = state.kernel;
+    observed(kernel, line, out, 0)
+}

@@ -1,0 +1,33 @@
+-- `edits::keeps` meets its contract.
+use mathlib.Core.{Path._≡_}
+use borrow.{Author.Needs.needs}
+use Rattle.edits.specs.{declared.Rule.Rule}
+use Rattle.edits.proofs.{keeps.Statement.statement}
+use Rattle.edits.proofs.keeps.Tie as tie
+
+returns : tie.Need-returns
+returns c =
+    let o = c .before in
+    let e : o .before .before .before .args .rule ≡ Rule.Owned = o .before .enum-told .given .1 in
+    rw (e, ← (o .owner-in .ensures)) (c .flag-at .ensures)
+
+returns-2 : tie.Need-returns-2
+returns-2 c = let k = c .before .before in rw (k .rule .given .1, c .is-declaration .ensures)
+
+returns-3 : tie.Need-returns-3
+returns-3 c = let k = c .before .before in rw (k .rule2 .given .1, c .is-dependency-of .ensures)
+
+pub keeps-spec : {M : Type 1} → statement M
+keeps-spec =
+    tie.close
+    (tie.spec
+    (λ c. search needs)  -- enum-told
+    (λ c κs. search needs)  -- owner-in-requires
+    (λ c κs. search needs)  -- flag-at-requires
+    (λ c. search needs)  -- enum-known-rule
+    (λ c κs. search needs)  -- is-declaration-requires
+    (λ c. search needs)  -- enum-known-rule-2
+    (λ c κs. search needs)  -- is-dependency-of-requires
+    returns
+    returns-2
+    returns-3)

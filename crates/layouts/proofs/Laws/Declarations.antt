@@ -1,0 +1,170 @@
+-- Declarations of a sound kernel: what scans of its arrays find, and one list or record behind them.
+use mathlib.Core.{Bool.Bool, Bool._&&_, Bool._||_, Bool.cond, Bool.false, Bool.not, Bool.true, List.List, List.[], List._++_, List._∷_, List.append-assoc, List.map, Path._∙_, Path._≡_, Path.ap, Path.refl, Path.sym}
+use Prim.Native.{Nat._+_, Nat._<_, Nat._≤_, Nat.ℕ}
+use native.Mathlib.{Omega.arith}
+use lib.{ListN.length, ListN.length-map, ListN.set, ListN.take, Seq.length-take-le}
+use borrow.{Author.Tests.leb-false, Author.Tests.ltb-false}
+use Rattle.model.specs.{Insertion.clashes, Insertion.insertTests, Insertion.inserted, Insertion.parentPresent, Interface.configureTests, Interface.dependenciesConfigured, Interface.distinct, Interface.listed, Interface.own, Interface.provisionDeclared, Interface.taken, Interface.takenBy, Interface.tooLong, Layouts.Layout, Layouts.layOut, Layouts.tablesOf, Lists.any, Lists.keep, Lists.padded, Records.blankDeclaration, Records.dependency, Records.newNode, Records.provision, Resolution.isDependencyOf, Sizes.Sizes, Sizes.listLimit, Soundness.isDeclaration, Tables.Tables, Tables.present, Tables.withDeclarations, declared.Parent.Parent, declared.Port.Port, declared.PortList.PortList, declared.records.Declaration.Declaration, declared.records.Node.Node}
+use Rattle.layouts.proofs.{Laws.Anew.HoldsDeclarations, Laws.Anew.declarations-anew, Laws.Anew.declarations-held, Laws.Anew.declarationsTo, Laws.Anew.holds-more, Laws.Anew.holds-one, Laws.Anew.holds-padded, Laws.Anew.kept-fewer, Laws.Anew.laid-as, Laws.Anew.links-held, Laws.Anew.nodesTo, Laws.Sound.SoundKernel, Laws.Sound.declaration-count-is, Laws.Sound.node-count-is, Laws.Sound.nodes-flagged, Laws.Sound.nodes-laid}
+use Rattle.loops.specs.{Columns.flag}
+use Rattle.model.proofs.{Laws.Booleans.or-f-l, Laws.Booleans.or-f-r, Laws.Refusals.Passed, Theorems.Layouts.laid-out}
+
+-- ---- operand lists
+
+-- a list whose array is full, and whose count is within the limit
+pub record Short (l : PortList) : Type 0 where
+  pub array : length (l .ports) ≡ listLimit
+  pub within : l .count ≤ listLimit
+
+-- it has as many ports as its count says
+pub length-listed : {l : PortList} → Short l → length (listed l) ≡ l .count
+length-listed {l} h = let a = h .array in let w = h .within in length-take-le (l .count) (l .ports) (omega arith)
+
+pub both-short : {ds ps : PortList} → length (ds .ports) ≡ listLimit → length (ps .ports) ≡ listLimit → tooLong ds || tooLong ps ≡ false → Short ds × Short ps
+both-short {ds} {ps} d p h =
+    let m = ltb-false listLimit (ds .count) (or-f-l (tooLong ds) (tooLong ps) h) in
+    let n = ltb-false listLimit (ps .count) (or-f-r (tooLong ds) (tooLong ps) h) in
+    (record { array = d; within = m }, record { array = p; within = n })
+
+clash-test : (d p a : Bool) → not d || not p || a ≡ not ((p && not a) && d)
+clash-test true true true = refl
+clash-test true true false = refl
+clash-test true false true = refl
+clash-test true false false = refl
+clash-test false true true = refl
+clash-test false true false = refl
+clash-test false false true = refl
+clash-test false false false = refl
+
+pub no-parent : (T : Tables) {q : Parent} → q ≡ Parent.None → parentPresent T q ≡ true
+unfolding parentPresent
+no-parent T i = ap (parentPresent T) i
+
+module _ {S : Sizes} {k : Layout} (K : SoundKernel S k) where
+  abbrev D : List Declaration
+  D = take (k .declarationCount) (k .declarations)
+
+  -- ---- what the scans find
+
+  pub own-is : {r : Bool} (id : ℕ) (p : Port) → r ≡ any (isDeclaration id p true) (take (k .declarationCount) (k .declarations)) → own (tablesOf k) id p ≡ r
+  unfolding tablesOf
+  own-is id p h = sym h
+
+  -- by the column of who is present
+  module _ {fs : List Bool} (f : fs ≡ map (λ (n : Node). n .present) (k .nodes)) where
+    flags-are : flag (S .identities) fs ≡ present ((tablesOf k) .nodes)
+    flags-are = ap (λ (X : List Bool). flag (S .identities) X) f ∙ nodes-flagged K (λ n. n .present) refl
+
+    pub taken-is : {r : Bool} (p : Port) → r ≡ any (takenBy (flag (S .identities) fs) p) (take (k .declarationCount) (k .declarations)) → taken (tablesOf k) p ≡ r
+    unfolding taken tablesOf
+    taken-is p h = sym (h ∙ ap (λ (F : ℕ → Bool). any (takenBy F p) D) flags-are)
+
+    pub parent-is : {q : Parent} {p : ℕ} {r : Bool} → q ≡ Parent.Of p → r ≡ flag (S .identities) fs p → parentPresent (tablesOf k) q ≡ r
+    unfolding parentPresent
+    parent-is {q} {p} i h = ap (parentPresent (tablesOf k)) i ∙ sym (h ∙ ap (λ (F : ℕ → Bool). F p) flags-are)
+
+    -- the two scans of an insertion's lists
+    abbrev free : List Port → Bool
+    free ps = distinct ps && not (any (λ p. any (takenBy (flag (S .identities) fs) p) (take (k .declarationCount) (k .declarations))) ps)
+
+    pub clashes-are : (ds ps : PortList) {a b : Bool} → a ≡ free (listed ps) → b ≡ distinct (listed ds) → clashes (tablesOf k) ds ps ≡ not (a && b)
+    unfolding tablesOf taken
+    clashes-are ds ps {a} h i =
+        clash-test (distinct (listed ds)) (distinct (listed ps)) (any (taken (tablesOf k)) (listed ps))
+        ∙ ap (λ (F : ℕ → Bool). not ((distinct (listed ps) && not (any (λ p. any (takenBy F p) D) (listed ps))) && distinct (listed ds))) (sym flags-are)
+        ∙ ap (λ (x : Bool). not (x && distinct (listed ds))) (sym h)
+        ∙ ap (λ (x : Bool). not (a && x)) (sym i)
+
+  -- ---- a provision declared
+
+  -- before: the kernel unchanged
+  pub declared-before : (id : ℕ) (p : Port) → own (tablesOf k) id p ≡ true → layOut S (provisionDeclared (tablesOf k) id p) ≡ k
+  declared-before id p h =
+      let T = tablesOf k in
+      ap (λ (b : Bool). layOut S (withDeclarations T (cond b (T .declarations) (T .declarations ++ (provision id p ∷ []))))) h ∙ laid-out S k (K .sized) (K .sound)
+
+  -- a new one: at the first free place
+  pub declared-now :
+      (id : ℕ) (p : Port) {d : Declaration} → own (tablesOf k) id p ≡ false → k .declarationCount < S .declarations → d ≡ provision id p →
+      layOut S (provisionDeclared (tablesOf k) id p) ≡ declarationsTo k (set (k .declarations) (k .declarationCount) d) (k .declarationCount + 1)
+  declared-now id p h l q =
+      let T = tablesOf k in
+      ap (λ (b : Bool). layOut S (withDeclarations T (cond b (T .declarations) (T .declarations ++ (provision id p ∷ []))))) h
+      ∙ declarations-anew K (T .declarations ++ (provision id p ∷ [])) (holds-one (declarations-held K) (provision id p) l q)
+
+  -- ---- one component more: its dependencies and its provisions behind the declarations, its node behind the nodes
+
+  module _ {ds ps : PortList} (short : Short ds × Short ps) (id : ℕ) {more : List Declaration}
+      (b : more ≡ padded (S .declarations) blankDeclaration (take (k .declarationCount) (k .declarations) ++ map (dependency id) (listed ds))) where
+    more-held : HoldsDeclarations S ((tablesOf k) .declarations ++ map (dependency id) (listed ds)) more (k .declarationCount + ds .count)
+    more-held = holds-more (declarations-held K) (map (dependency id) (listed ds)) b (length-map (listed ds) (dependency id) ∙ length-listed (short .0))
+
+    pub more-padded : more ≡ padded (S .declarations) blankDeclaration (take (k .declarationCount + ds .count) more)
+    more-padded = holds-padded more-held
+
+    module _ {most : List Declaration} (c : most ≡ padded (S .declarations) blankDeclaration (take (k .declarationCount + ds .count) more ++ map (provision id) (listed ps))) where
+      most-held : HoldsDeclarations S ((tablesOf k) .declarations ++ (map (dependency id) (listed ds) ++ map (provision id) (listed ps))) most (k .declarationCount + ds .count + ps .count)
+      most-held =
+          let two = holds-more more-held (map (provision id) (listed ps)) c (length-map (listed ps) (provision id) ∙ length-listed (short .1)) in
+          rw append-assoc at two
+
+      pub inserted-laid :
+          id ≡ k .nodeCount → id < S .identities → (q : Parent) {n : Node} → n ≡ newNode q →
+          layOut S (inserted (tablesOf k) q ds ps) ≡ declarationsTo (nodesTo k (set (k .nodes) id n) (id + 1)) most (k .declarationCount + ds .count + ps .count)
+      inserted-laid e l q w =
+          let T = tablesOf k in
+          let here : length (T .nodes) ≡ id = node-count-is K ∙ sym e in
+          ap (λ (i : ℕ). layOut S (record { nodes = T .nodes ++ (newNode q ∷ []); declarations = T .declarations ++ (map (dependency i) (listed ds) ++ map (provision i) (listed ps)); links = T .links })) here
+          ∙ laid-as S _ _ (holds-one (record { entries = nodes-laid K; counted = here }) (newNode q) l w) most-held (links-held K)
+
+-- ---- the dependencies of one owner replaced
+
+-- what configure's tests leave room for
+pub record Configurable (S : Sizes) (k : Layout) (l : PortList) : Type 0 where
+  pub kernel : SoundKernel S k
+  pub short : Short l
+  pub sum : l .count + k .declarationCount ≤ S .declarations
+
+-- the one line that reads the row by place
+pub configurable : {S : Sizes} {k : Layout} (K : SoundKernel S k) (id : ℕ) {l : PortList} → length (l .ports) ≡ listLimit → Passed (configureTests S (tablesOf k) id l) → Configurable S k l
+configurable {S} {k} K id {l} a (long, (_, (_, (_, (sum, _))))) =
+    let s : Short l = record { array = a; within = ltb-false listLimit (l .count) long } in
+    let n : length (listed l) + length ((tablesOf k) .declarations) ≡ l .count + k .declarationCount = rw (length-listed s, declaration-count-is K) in
+    record { kernel = K; short = s; sum = rw n at (ltb-false (S .declarations) (length (listed l) + length ((tablesOf k) .declarations)) sum) }
+
+-- the declarations that stay
+abbrev pub others : Layout → ℕ → List Declaration
+others k id = keep (λ d. not (isDependencyOf id d)) (take (k .declarationCount) (k .declarations))
+
+module _ {S : Sizes} {k : Layout} {l : PortList} (C : Configurable S k l) (id : ℕ) {array : List Declaration} {n : ℕ} (h : HoldsDeclarations S (others k id) array n) where
+  -- what is kept and the list fit
+  pub configured-fits : n + l .count ≤ S .declarations
+  unfolding tablesOf
+  configured-fits = let s = C .sum in omega (arith, kept-fewer (λ d. not (isDependencyOf id d)) (take (k .declarationCount) (k .declarations)) h (declaration-count-is (C .kernel)))
+
+  pub configured-laid :
+      {more : List Declaration} → more ≡ padded (S .declarations) blankDeclaration (take n array ++ map (dependency id) (listed l)) →
+      layOut S (dependenciesConfigured (tablesOf k) id l) ≡ declarationsTo k more (n + l .count)
+  unfolding tablesOf
+  configured-laid e = declarations-anew (C .kernel) _ (holds-more h (map (dependency id) (listed l)) e (length-map (listed l) (dependency id) ∙ length-listed (C .short)))
+
+-- ---- what insertion's tests leave room for
+
+pub record Insertable (S : Sizes) (k : Layout) (ds ps : PortList) : Type 0 where
+  pub kernel : SoundKernel S k
+  pub short : Short ds × Short ps
+  pub node : k .nodeCount < S .identities
+  pub sum : k .declarationCount + ds .count + ps .count ≤ S .declarations
+
+module _ {S : Sizes} {k : Layout} (K : SoundKernel S k) {ds ps : PortList} where
+  -- how many declarations there would be
+  pub declared-count : Short ds × Short ps → length ((tablesOf k) .declarations) + length (listed ds) + length (listed ps) ≡ k .declarationCount + ds .count + ps .count
+  declared-count s = rw (declaration-count-is K, length-listed (s .0), length-listed (s .1))
+
+  -- the one line that reads the row by place
+  pub insertable : (q : Parent) → length (ds .ports) ≡ listLimit → length (ps .ports) ≡ listLimit → Passed (insertTests S (tablesOf k) q ds ps) → Insertable S k ds ps
+  insertable q d p (long, (full, (_, (_, (sum, _))))) =
+      let s = both-short {ds = ds} {ps = ps} d p long in
+      let free : length ((tablesOf k) .nodes) < S .identities = leb-false _ _ full in
+      let fits : length ((tablesOf k) .declarations) + length (listed ds) + length (listed ps) ≤ S .declarations = ltb-false _ _ sum in
+      record { kernel = K; short = s; node = rw (node-count-is K) at free; sum = rw (declared-count s) at fits }

@@ -1,0 +1,125 @@
+-- The target of a component of a sound kernel, as a scan of its arrays finds it.
+use mathlib.Core.{Bool.Bool, Bool._||_, Bool.cond, Bool.false, Bool.not, Bool.or-true, Bool.true, List.List, List._++_, List.map, Logic._⊎_, Logic.inl, Logic.inr, Option.Option, Option.none, Option.some, Path._∙_, Path._≡_, Path.ap, Path.refl, Path.sym}
+use Prim.Native.{Nat._+_, Nat._-_, Nat._<_, Nat._≤_, Nat.ℕ}
+use native.Mathlib.{Omega.arith}
+use lib.{Dec.ltb, ListN.getD, ListN.length, ListN.length-map, ListN.set, ListN.take}
+use borrow.{Author.Tests.le-ltb, Author.Tests.lt-ltb}
+use Rattle.model.specs.{Kernels.asked, Layouts.Layout, Layouts.Sized, Layouts.layOut, Layouts.soundKernel, Layouts.tablesOf, Lifecycle.begun, Lifecycle.begunNode, Lifecycle.bindings, Lists.isNone, Lists.keep, Lists.padded, Records.blankBinding, Records.blankLink, Records.blankNode, Records.isProviding, Records.liveLink, Records.portOf, Resolution.bindPorts, Resolution.dependencyPorts, Resolution.isDependencyOf, Resolution.resolve, Resolution.target, Sizes.Sizes, Tables.nodeAt, Tables.present, declared.Binding.Binding, declared.records.Link.Link, declared.records.Node.Node}
+use Rattle.layouts.proofs.{Laws.Anew.Holds, Laws.Anew.holds-more, Laws.Anew.links-held, Laws.Anew.linksTo, Laws.Anew.nodesTo, Laws.Nodes.node-and-links, Laws.Sound.SoundKernel, Laws.Sound.ask-sound, Laws.Sound.declaration-count-is, Laws.Sound.laid, Laws.Sound.link-count-is, Laws.Sound.node-has, Laws.Sound.node-is, Laws.Sound.nodes-flagged}
+use Rattle.loops.specs.{Columns.flag}
+use Rattle.model.proofs.{Laws.Arrays.length-padded, Laws.Arrays.take-padded, Laws.Booleans.cases, Laws.Lists.length-keep, Laws.Resolution.bound-ports, Laws.Resolution.target-bound, Laws.Resolution.target-none, Laws.Resolution.targeted}
+
+-- each dependency below the count, bound to an owner that the array's nodes show as providing
+abbrev pub found : Sizes → Layout → ℕ → Option (List Binding)
+found S k id = let ds = take (k .declarationCount) (k .declarations) in bindPorts (resolve (flag (S .identities) (map isProviding (k .nodes))) ds) (dependencyPorts ds id)
+
+-- absent or retired: it has no target
+abbrev pub isUntargeted : Node → Bool
+isUntargeted n = not (n .present) || n .retired
+
+module _ {S : Sizes} {k : Layout} (K : SoundKernel S k) (id : ℕ) where
+  -- of a present component that is not retired it is the target
+  pub target-found : isUntargeted (getD (k .nodes) id blankNode) ≡ false → target (tablesOf k) id ≡ found S k id
+  unfolding tablesOf
+  target-found h =
+      let ds = take (k .declarationCount) (k .declarations) in
+      target-bound (tablesOf k) id (node-has K isUntargeted id h) ∙ ap (λ (F : ℕ → Bool). bindPorts (resolve F ds) (dependencyPorts ds id)) (sym (nodes-flagged K isProviding refl))
+
+  -- of a retired one there is none
+  pub target-retired : (getD (k .nodes) id blankNode) .retired ≡ true → target (tablesOf k) id ≡ none
+  target-retired q = target-none (tablesOf k) id (node-has K isUntargeted id (rw (q, or-true (not ((getD (k .nodes) id blankNode) .present)))))
+
+  -- whether a present one has none
+  pub target-gone : (getD (k .nodes) id blankNode) .present ≡ true → {there : Bool} → there ≡ not (isNone (found S k id)) → isNone (target (tablesOf k) id) ≡ (getD (k .nodes) id blankNode) .retired || not there
+  target-gone p {there} h = go (cases ((getD (k .nodes) id blankNode) .retired))
+    where
+      again : (b : Bool) → b ≡ not (not b)
+      again true = refl
+      again false = refl
+
+      go : ((getD (k .nodes) id blankNode) .retired ≡ true) ⊎ ((getD (k .nodes) id blankNode) .retired ≡ false) → isNone (target (tablesOf k) id) ≡ (getD (k .nodes) id blankNode) .retired || not there
+      go (inl q) = rw (target-retired q, q)
+      go (inr q) = ap isNone (target-found (rw (p, q))) ∙ rw (q, h) (again (isNone (found S k id)))
+
+  -- no more bindings than declarations
+  target-within : (o : Option (List Binding)) → target (tablesOf k) id ≡ o → length (bindings o) ≤ S .declarations
+  unfolding dependencyPorts
+  target-within none h = omega arith
+  target-within (some bs) h =
+      let T = tablesOf k in
+      let kept = keep (isDependencyOf id) (T .declarations) in
+      let c = declaration-count-is K in
+      let w = laid K .declarations in
+      let b : length bs ≡ length kept = sym (length-map bs portOf) ∙ ap length (bound-ports _ _ bs ((targeted T id bs h) .is-bound)) ∙ length-map kept (λ d. d .port) in
+      omega (arith, b, c, w, length-keep (isDependencyOf id) (T .declarations))
+
+-- ---- of the node that a call looks up, blank where the kernel is not sound
+
+module _ (S : Sizes) (k : Layout) (id : ℕ) where
+  pub no-target : isUntargeted (asked S k blankNode (λ T. nodeAt (T .nodes) id)) ≡ true → none ≡ asked S k none (λ T. target T id)
+  unfolding asked
+  no-target h = go (soundKernel S k) h
+    where
+      go : (b : Bool) → isUntargeted (cond b (nodeAt ((tablesOf k) .nodes) id) blankNode) ≡ true → none ≡ cond b (target (tablesOf k) id) none
+      go true q = sym (target-none (tablesOf k) id q)
+      go false q = refl
+
+  -- one that is neither is a sound kernel's
+  pub targeted-sound : Sized S k → isUntargeted (asked S k blankNode (λ T. nodeAt (T .nodes) id)) ≡ false → SoundKernel S k
+  unfolding asked
+  targeted-sound z h = record { sized = z; sound = go (soundKernel S k) h }
+    where
+      go : (b : Bool) → isUntargeted (cond b (nodeAt ((tablesOf k) .nodes) id) blankNode) ≡ false → b ≡ true
+      go true q = refl
+      go false q = sym q
+
+  pub asks-target : (K : SoundKernel S k) → isUntargeted (asked S k blankNode (λ T. nodeAt (T .nodes) id)) ≡ false → found S k id ≡ asked S k none (λ T. target T id)
+  asks-target K h =
+      let there = sym (ap isUntargeted (ask-sound K blankNode (λ T. nodeAt (T .nodes) id) ∙ node-is K id)) ∙ h in
+      sym (ask-sound K none (λ T. target T id) ∙ target-found K id there)
+
+-- ---- a target in an array with its count, and a yes/no for "there is one"
+
+pub record Held (S : Sizes) (k : Layout) (id : ℕ) (there : Bool) (array : List Binding) (count : ℕ) : Type 0 where
+  pub kernel : SoundKernel S k
+  pub is-there : there ≡ not (isNone (target (tablesOf k) id))
+  pub bound : Holds (S .declarations) blankBinding (bindings (target (tablesOf k) id)) array count
+
+module _ {S : Sizes} {k : Layout} {id : ℕ} {there : Bool} {array : List Binding} {count : ℕ} (H : Held S k id there array count) where
+  abbrev bs : List Binding
+  bs = bindings (target (tablesOf k) id)
+
+  pub target-missing : isNone (target (tablesOf k) id) ≡ not there
+  target-missing = go (isNone (target (tablesOf k) id)) there (H .is-there)
+    where
+      go : (a b : Bool) → b ≡ not a → a ≡ not b
+      go true b e = rw e
+      go false b e = rw e
+
+  pub target-most : count ≤ S .declarations
+  target-most = rw (← (H .bound .counted)) (target-within (H .kernel) id (target (tablesOf k) id) refl)
+
+  pub target-width : length array ≡ S .declarations
+  target-width = rw (← (H .bound .entries)) (length-padded (S .declarations) blankBinding bs (target-within (H .kernel) id (target (tablesOf k) id) refl))
+
+  target-taken : take count array ≡ bs
+  target-taken = rw (← (H .bound .entries), ← (H .bound .counted)) (take-padded (S .declarations) blankBinding bs)
+
+  -- ---- the space for its links
+
+  pub space-none : S .links - k .linkCount < count → ltb (S .links) (length ((tablesOf k) .links) + length bs) ≡ true
+  space-none l = rw (link-count-is (H .kernel), H .bound .counted) (lt-ltb (S .links) (k .linkCount + count) (omega arith))
+
+  pub space-some : count ≤ S .links - k .linkCount → ltb (S .links) (length ((tablesOf k) .links) + length bs) ≡ false
+  space-some l = rw (link-count-is (H .kernel), H .bound .counted) (le-ltb (S .links) (k .linkCount + count) (omega (arith, laid (H .kernel) .links)))
+
+  -- ---- the kernel that begin leaves
+
+  pub begun-laid :
+      {n : Node} → n ≡ begunNode (getD (k .nodes) id blankNode) → present ((tablesOf k) .nodes) id ≡ true →
+      {ls : List Link} → ls ≡ padded (S .links) blankLink (take (k .linkCount) (k .links) ++ map (liveLink id) (take count array)) →
+      layOut S (begun (tablesOf k) id) ≡ linksTo (nodesTo k (set (k .nodes) id n) (k .nodeCount)) ls (k .linkCount + count)
+  begun-laid f p h =
+      let new = map (liveLink id) bs in
+      let written = h ∙ ap (λ (xs : List Binding). padded (S .links) blankLink (take (k .linkCount) (k .links) ++ map (liveLink id) xs)) target-taken in
+      node-and-links (H .kernel) id p begunNode (ap (set (k .nodes) id) f) ((tablesOf k) .links ++ new) (holds-more (links-held (H .kernel)) new written (length-map bs (liveLink id) ∙ H .bound .counted))

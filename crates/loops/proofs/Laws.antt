@@ -1,0 +1,14 @@
+-- Laws of loops over tables of any size.
+pub mod Scan
+pub mod Columns
+pub mod Scanning
+pub mod Collecting
+pub mod Flags
+pub mod Filled
+pub mod Resolving
+pub mod Marking
+pub mod Distinct
+pub mod Parents
+pub mod Chains
+pub mod Kept
+pub mod Edit

@@ -1,0 +1,5 @@
+pub mod Columns
+pub mod Counted
+pub mod Limits
+pub mod Chains
+pub mod Marks

@@ -1,0 +1,30 @@
+-- The stored records: each is its fields, and what is stored is read back.
+use mathlib.Core.{Path._≡_, Path.refl}
+use Rattle.model.specs.{Records.bindingIn, Records.consumerIn, Records.declaredPort, Records.givenParent, Records.ownerIn, Records.parentIn, Records.storedParent, declared.Binding.Binding, declared.Parent.Parent, declared.Port.Port, declared.records.Declaration.Declaration, declared.records.Link.Link, declared.records.Node.Node, declared.records.StoredParent.StoredParent}
+
+pub port-is : {p q : Port} → p .key ≡ q .key → p .realm ≡ q .realm → p ≡ q
+port-is k r = λ i. record { key = k i; realm = r i }
+
+pub binding-is : {a b : Binding} → a .key ≡ b .key → a .realm ≡ b .realm → a .provider ≡ b .provider → a ≡ b
+binding-is k r o = λ i. record { key = k i; realm = r i; provider = o i }
+
+pub declaration-is : {d e : Declaration} → ownerIn d ≡ ownerIn e → declaredPort d ≡ declaredPort e → d .provides ≡ e .provides → d ≡ e
+declaration-is o p b = λ i. record { owner = o i; port = p i; provides = b i }
+
+pub link-is : {l m : Link} → consumerIn l ≡ consumerIn m → bindingIn l ≡ bindingIn m → l .live ≡ m .live → l ≡ m
+link-is c b v = λ i. record { key = b i .key; realm = b i .realm; consumer = c i; provider = b i .provider; live = v i }
+
+-- ---- parents
+
+pub parent-read : (p : Parent) → givenParent (storedParent p) ≡ p
+parent-read Parent.None = refl
+parent-read (Parent.Of p) = refl
+
+same-stored : (p q : StoredParent) → givenParent p ≡ givenParent q → p ≡ q
+same-stored StoredParent.None StoredParent.None e = refl
+same-stored StoredParent.None (StoredParent.Of q) e = cc
+same-stored (StoredParent.Of p) StoredParent.None e = cc
+same-stored (StoredParent.Of p) (StoredParent.Of q) e = cc
+
+pub node-is : {m n : Node} → m .present ≡ n .present → m .retired ≡ n .retired → m .phase ≡ n .phase → m .restoring ≡ n .restoring → parentIn m ≡ parentIn n → m .generation ≡ n .generation → m ≡ n
+node-is {m} {n} a r f u p g = λ i. record { present = a i; retired = r i; phase = f i; restoring = u i; parent = same-stored (m .parent) (n .parent) p i; generation = g i }

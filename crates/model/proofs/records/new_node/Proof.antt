@@ -1,0 +1,14 @@
+-- `model::records::new_node` meets its contract.
+use borrow.{Author.Needs.needs}
+use Rattle.model.proofs.{records.new_node.Statement.statement}
+use Rattle.model.proofs.records.new_node.Tie as tie
+
+returns : tie.Need-returns
+returns c = rw (c .stored-parent .ensures)
+
+pub new-node-spec : {M : Type 1} → statement M
+new-node-spec =
+    tie.close
+    (tie.spec
+    (λ c κs. search needs)  -- stored-parent-requires
+    returns)

@@ -1,0 +1,16 @@
+-- `model::tests::is_dependency_of` meets its contract.
+use borrow.{Author.Needs.needs}
+use Rattle.model.specs.{Resolution.isDependencyOf}
+use Rattle.model.proofs.{tests.is_dependency_of.Statement.statement}
+use Rattle.model.proofs.tests.is_dependency_of.Tie as tie
+
+returns : tie.Need-returns
+unfolding isDependencyOf
+returns c = cc
+
+pub is-dependency-of-spec : {M : Type 1} → statement M
+is-dependency-of-spec =
+    tie.close
+    (tie.spec
+    (λ c κs. search needs)  -- owner-in-requires
+    returns)

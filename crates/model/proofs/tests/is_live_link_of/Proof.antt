@@ -1,0 +1,16 @@
+-- `model::tests::is_live_link_of` meets its contract.
+use borrow.{Author.Needs.needs}
+use Rattle.model.specs.{Resolution.isLiveLinkOf}
+use Rattle.model.proofs.{tests.is_live_link_of.Statement.statement}
+use Rattle.model.proofs.tests.is_live_link_of.Tie as tie
+
+returns : tie.Need-returns
+unfolding isLiveLinkOf
+returns c = cc
+
+pub is-live-link-of-spec : {M : Type 1} → statement M
+is-live-link-of-spec =
+    tie.close
+    (tie.spec
+    (λ c κs. search needs)  -- consumer-in-requires
+    returns)

@@ -1,0 +1,13 @@
+-- `model::tests::is_providing` meets its contract.
+use borrow.{Author.Needs.needs}
+use Rattle.model.proofs.{tests.is_providing.Statement.statement}
+use Rattle.model.proofs.tests.is_providing.Tie as tie
+
+is-active-requires : tie.Need-is-active-requires
+is-active-requires c κs = search needs
+
+returns : tie.Need-returns
+returns c = cc
+
+pub is-providing-spec : {M : Type 1} → statement M
+is-providing-spec = tie.close (tie.spec is-active-requires returns)

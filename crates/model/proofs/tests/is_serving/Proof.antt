@@ -1,0 +1,13 @@
+-- `model::tests::is_serving` meets its contract.
+use borrow.{Author.Needs.needs}
+use Rattle.model.proofs.{tests.is_serving.Statement.statement}
+use Rattle.model.proofs.tests.is_serving.Tie as tie
+
+is-inactive-requires : tie.Need-is-inactive-requires
+is-inactive-requires c κs = search needs
+
+returns : tie.Need-returns
+returns c = cc
+
+pub is-serving-spec : {M : Type 1} → statement M
+is-serving-spec = tie.close (tie.spec is-inactive-requires returns)

@@ -1,0 +1,48 @@
+-- `soundness::chains::chain_ports` meets its contract. The entries met are chained.
+use mathlib.Core.{List.[], Path._≡_, Path.sym}
+use Prim.Native.{Nat._-_, Nat._≤_}
+use native.Mathlib.{Omega.arith}
+use borrow.{Author.Needs.needs}
+use Rattle.loops.proofs.{Laws.Chains.chained-next, Laws.Chains.chained-start}
+use Rattle.loops.specs.{Chains.Chained, Chains.bucketAt}
+use Rattle.soundness.proofs.{chains.chain_ports.Statement.statement}
+use Rattle.soundness.proofs.chains.chain_ports.Tie as tie
+use Rattle.sizes.specs.{Sizes.DECLARATIONS}
+
+abbrev Inv-loop : tie.InvT-loop
+Inv-loop key realm count first₀ next₀ i₀ first next i = (i ≤ count) × Chained (bucketAt [] key realm) DECLARATIONS i first next
+
+abbrev μ-loop : tie.MeasureT-loop
+μ-loop key realm count first₀ next₀ i₀ first next i = count - i
+
+loop-again : tie.Need-loop-again Inv-loop μ-loop
+loop-again c =
+    let b = c .before in
+    (omega arith, chained-next (b .before .before .before .before .loop .inv .1) (omega arith) (sym (b .bucket-of .ensures .0)) (b .bucket-of .ensures .1))
+
+returns : tie.Need-returns Inv-loop μ-loop
+returns c = let e : c .before .loop .i ≡ c .before .before .args .count = omega arith in rw (← e) (c .before .loop .inv .1)
+
+pub chain-ports-spec : {M : Type 1} → statement M
+chain-ports-spec =
+    tie.close
+    (tie.spec
+    Inv-loop
+    μ-loop
+    (λ c. (omega arith, chained-start (c .pre .1) (c .pre .2)))  -- loop-holds
+    (λ c. omega arith)  -- mul-k
+    (λ c. omega arith)  -- element-copy-out-k
+    (λ c. omega arith)  -- mul-r
+    (λ c. omega arith)  -- element-copy-out-r
+    (λ c κs. search needs)  -- bucket-of-requires
+    (λ c. omega arith)  -- mul-next
+    (λ c. omega arith)  -- element-copy-out-next
+    (λ c. omega arith)  -- mul-next-2
+    (λ c. omega arith)  -- element-write-next
+    (λ c. omega arith)  -- add-first
+    (λ c. omega arith)  -- mul-first
+    (λ c. omega arith)  -- element-write-first
+    (λ c. omega arith)  -- add-i
+    (λ c. omega arith)  -- loop-less
+    loop-again
+    returns)

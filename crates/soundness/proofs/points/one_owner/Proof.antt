@@ -1,0 +1,84 @@
+-- `soundness::points::one_owner` meets its contract. What is left of the columns answers as the whole does.
+use mathlib.Core.{Bool.Bool, List.List, Path._∙_, Path._≡_, Path.sym}
+use Prim.Native.{Nat._-_, Nat.ℕ}
+use native.Mathlib.{Omega.arith}
+use lib.{ListN.take}
+use borrow.{Author.Needs.needs, Author.Tests.not-false, Author.Tests.not-true}
+use Rattle.model.specs.{Lists.all, Soundness.sameOwner, declared.records.Declaration.Declaration}
+use Rattle.loops.proofs.{Laws.Columns.rows-most, Laws.Scanning.Testing, Laws.Scanning.test-end, Laws.Scanning.test-hit, Laws.Scanning.test-on, Laws.Scanning.test-start}
+use Rattle.loops.specs.{Columns.declarationAt, Columns.declarationsOf, Columns.flag, Columns.rowsFrom}
+use Rattle.soundness.proofs.{points.one_owner.Statement.statement}
+use Rattle.soundness.proofs.points.one_owner.Tie as tie
+use Rattle.sizes.specs.{Sizes.DECLARATIONS, Sizes.IDENTITIES}
+
+-- a declaration with which none below the count clashes
+abbrev alone : (ℕ → Declaration) → List Bool → ℕ → Declaration → Bool
+alone row present count d = all (sameOwner (flag IDENTITIES present) d) (take count (rowsFrom 0 DECLARATIONS row))
+
+abbrev Inv-loop : tie.InvT-loop
+Inv-loop owner key realm provides present count end first next i₀ i =
+    let row = declarationAt owner key realm provides in
+    Testing (alone row present count) DECLARATIONS row end i (all (alone row present count) (take count (rowsFrom 0 DECLARATIONS row)))
+
+abbrev μ-loop : tie.MeasureT-loop
+μ-loop owner key realm provides present count end first next i₀ i = end - i
+
+-- at the loop's head
+module _ (l : tie.At-loop Inv-loop μ-loop) where
+  abbrev cut : tie.After-at-most Inv-loop μ-loop
+  cut = l .before .before .before .before
+
+  abbrev s : tie.Start Inv-loop μ-loop
+  s = cut .before
+
+  abbrev row : ℕ → Declaration
+  row = declarationAt (s .args .owner .now) (s .args .key .now) (s .args .realm .now) (s .args .provides .now)
+
+-- in a turn, the declaration made
+module _ (m : tie.After-declaration-of Inv-loop μ-loop) where
+  abbrev read : tie.After-t24 Inv-loop μ-loop
+  read = m .before .before .before
+
+  abbrev turn : tie.At-loop Inv-loop μ-loop
+  turn = read .before .before .before
+
+-- what one_provider tells of the declaration
+module _ (v : tie.After-one-provider Inv-loop μ-loop) where
+  abbrev l : tie.At-loop Inv-loop μ-loop
+  l = turn (v .before .before .before)
+
+  tells : v .one-provider .result ≡ alone (row l) (s l .args .present .now) (s l .args .count) (row l (l .loop .i))
+  unfolding declarationsOf
+  tells = rw (v .before .before .before .declaration-of .ensures, rows-most (s l .args .count) DECLARATIONS _ (row l) (cut l .at-most .ensures)) at (v .one-provider .ensures)
+
+returns : tie.Need-returns Inv-loop μ-loop
+unfolding declarationsOf
+returns c = let t = sym (tells (c .before)) ∙ not-true _ (c .if1 .taken) in search test-hit
+
+returns-2 : tie.Need-returns-2 Inv-loop μ-loop
+unfolding declarationsOf
+returns-2 c = search test-end
+
+pub one-owner-spec : {M : Type 1} → statement M
+one-owner-spec =
+    tie.close
+    (tie.spec
+    Inv-loop
+    μ-loop
+    (λ c κs. search needs)  -- at-most-requires
+    (λ c κs. search needs)  -- chain-ports-requires
+    (λ c. test-start (c .before .before .before .at-most .ensures))  -- loop-holds
+    (λ c. omega arith)  -- mul-t17
+    (λ c. omega arith)  -- element-copy-out-t20
+    (λ c. omega arith)  -- mul-t21
+    (λ c. omega arith)  -- element-copy-out-t24
+    (λ c. omega arith)  -- mul-declaration-of
+    (λ c. omega arith)  -- element-copy-out-declaration-of
+    (λ c. omega arith)  -- element-copy-out-declaration-of-2
+    (λ c κs. search needs)  -- declaration-of-requires
+    (λ c κs. turn (c .before .before) .before .chain-ports .ensures)  -- one-provider-requires
+    returns
+    (λ c. omega arith)  -- add-i
+    (λ c. omega arith)  -- loop-less
+    (λ c. test-on (search) (omega arith) (sym (tells (c .before)) ∙ not-false _ (c .if1 .left)))  -- loop-again
+    returns-2)

@@ -1,0 +1,74 @@
+// The entry test of every command and check: whether a kernel's tables are sound, in one pass over each.
+ghost use mathlib.Core.Path.{_≡_};
+ghost use Rattle.model.specs.Layouts.{soundKernel};
+ghost use Rattle.sizes.specs.Sizes.{sizes};
+use crate::nodes::nodes_ok;
+use crate::points::covered;
+use crate::points::links_ok;
+use crate::points::one_owner;
+use crate::points::owners_issued;
+use model::Declaration;
+use model::Link;
+use model::Node;
+use sizes::DECLARATIONS;
+use sizes::IDENTITIES;
+use sizes::LINKS;
+
+mod chains;
+mod nodes;
+mod points;
+
+// Whether the kernel of these tables and counts is sound. A function of the tables, so that a command that has them in locals puts no kernel together for it.
+pub fn tables_sound(
+    nodes: [Node; IDENTITIES],
+    n: usize,
+    declarations: [Declaration; DECLARATIONS],
+    d: usize,
+    links: [Link; LINKS],
+    l: usize,
+) -> bool
+    ensures { λ r. ⌜ r ≡ soundKernel sizes (record { nodes = nodes; nodeCount = n; declarations = declarations; declarationCount = d; links = links; linkCount = l }) ⌝ }
+{
+    if !((n <= IDENTITIES) & (d <= DECLARATIONS) & (l <= LINKS)) {
+        return false;
+    }
+    let mut present = [false; IDENTITIES];
+    let mut installed = [false; IDENTITIES];
+    let mut serving = [false; IDENTITIES];
+    if !nodes_ok(nodes, n, &mut present, &mut installed, &mut serving) {
+        return false;
+    }
+    let mut owner = [0usize; DECLARATIONS];
+    let mut key = [0u64; DECLARATIONS];
+    let mut realm = [0u64; DECLARATIONS];
+    let mut provides = [false; DECLARATIONS];
+    let blank = scans::declaration_columns(
+        declarations,
+        d,
+        &mut owner,
+        &mut key,
+        &mut realm,
+        &mut provides,
+    );
+    if !(blank
+        & owners_issued(&owner, d, n)
+        & one_owner(&owner, &key, &realm, &provides, &present, d)) {
+        return false;
+    }
+    let mut met = [false; DECLARATIONS];
+    if !links_ok(
+        links,
+        l,
+        &owner,
+        &key,
+        &realm,
+        &provides,
+        d,
+        &installed,
+        &serving,
+        &mut met,
+    ) {
+        return false;
+    }
+    covered(&owner, &provides, d, &installed, &met)
+}

@@ -1,0 +1,58 @@
+// The node table: whether it is sound.
+ghost use mathlib.Core.Path.{_≡_};
+ghost use mathlib.Core.Bool.{_&&_, false, true};
+ghost use mathlib.Core.List.{map};
+ghost use lib.ListN.{replicate, take, drop};
+ghost use Rattle.model.specs.Lists.{all, allAt};
+ghost use Rattle.model.specs.Records.{isBlankNode, isInstalled, isServing};
+ghost use Rattle.model.specs.Soundness.{nodeOk};
+ghost use Rattle.sizes.specs.Sizes.{IDENTITIES};
+use loops::at_most;
+use model::Node;
+use model::Parent;
+use sizes::IDENTITIES;
+
+// Whether each node below the count is consistent, and a present one's parent present and smaller, and the nodes past it are blank. Where so, it has written which nodes are present, installed and serving: a blank one is none of them.
+pub fn nodes_ok(
+    nodes: [Node; IDENTITIES],
+    count: usize,
+    present: &mut [bool; IDENTITIES],
+    installed: &mut [bool; IDENTITIES],
+    serving: &mut [bool; IDENTITIES],
+) -> bool
+    requires { ⌜ (now present ≡ replicate IDENTITIES false) × (now installed ≡ replicate IDENTITIES false) × (now serving ≡ replicate IDENTITIES false) ⌝ }
+    ensures { λ r. ⌜ (r ≡ allAt (nodeOk (take count nodes)) 0 (take count nodes) && all isBlankNode (drop count nodes)) × (r ≡ true → (now (present .exit) ≡ map (λ n. n .present) nodes) × (now (installed .exit) ≡ map isInstalled nodes) × (now (serving .exit) ≡ map isServing nodes)) ⌝ }
+{
+    let end = at_most(count, IDENTITIES);
+    let mut i = 0;
+    while i < end {
+        let node = nodes[i];
+        if !model::is_consistent(node) {
+            return false;
+        }
+        if node.present {
+            let parent = model::parent_in(node);
+            if let Parent::Of(p) = parent {
+                if i <= p {
+                    return false;
+                }
+                let above = nodes[p];
+                if !above.present {
+                    return false;
+                }
+            }
+        }
+        present[i] = node.present;
+        installed[i] = model::is_installed(node);
+        serving[i] = model::is_serving(node);
+        i += 1;
+    }
+    while i < IDENTITIES {
+        let node = nodes[i];
+        if !model::is_blank_node(node) {
+            return false;
+        }
+        i += 1;
+    }
+    true
+}

@@ -1,0 +1,298 @@
+// The points of soundness over the columns.
+ghost use mathlib.Core.Path.{_≡_};
+ghost use mathlib.Core.Bool.{Bool, true, false, _&&_, _||_};
+ghost use mathlib.Core.List.{List, []};
+ghost use Prim.Native.Nat.{ℕ, _<_};
+ghost use lib.ListN.{length, take, drop, getD, replicate};
+ghost use Rattle.model.specs.Lists.{all, any};
+ghost use Rattle.model.specs.Records.{isBlankLink};
+ghost use Rattle.model.specs.Soundness.{hasOwner, sameOwner, isDeclaration, linkOk, ordered, isCovered};
+ghost use Rattle.loops.specs.Columns.{declarationAt, declarationsOf, flag};
+ghost use Rattle.loops.specs.Marks.{meets, marked, unmarked};
+ghost use Rattle.loops.specs.Chains.{bucketAt, Chained};
+ghost use Rattle.sizes.specs.Sizes.{DECLARATIONS, IDENTITIES};
+use crate::chains::chain_declarations;
+use crate::chains::chain_ports;
+use loops::BUCKETS;
+use loops::at_most;
+use loops::bucket_of;
+use model::Declaration;
+use model::Link;
+use model::Port;
+use scans::flag_at;
+use sizes::DECLARATIONS;
+use sizes::IDENTITIES;
+use sizes::LINKS;
+
+// Whether each owner below the count is an issued identity.
+pub fn owners_issued(owner: &[usize; DECLARATIONS], count: usize, issued: usize) -> bool
+    ensures { λ r. ⌜ ((key realm : List ℕ) (provides : List Bool) → r ≡ all (hasOwner issued) (take count (declarationsOf DECLARATIONS (now (owner .entry)) key realm provides))) ⌝ }
+{
+    let end = at_most(count, DECLARATIONS);
+    let mut i = 0;
+    while i < end {
+        if issued <= owner[i] {
+            return false;
+        }
+        i += 1;
+    }
+    true
+}
+
+// Whether this declaration and each of the columns, if both are provisions of one port by present owners, have one owner: only its port's chain is read.
+pub fn one_provider(
+    owner: &[usize; DECLARATIONS],
+    key: &[u64; DECLARATIONS],
+    realm: &[u64; DECLARATIONS],
+    provides: &[bool; DECLARATIONS],
+    present: &[bool; IDENTITIES],
+    count: usize,
+    first: &[usize; BUCKETS],
+    next: &[usize; DECLARATIONS],
+    d: Declaration,
+) -> bool
+    requires { ⌜ Chained (bucketAt [] (now key) (now realm)) DECLARATIONS count (now first) (now next) ⌝ }
+    ensures { λ r. ⌜ r ≡ all (sameOwner (flag IDENTITIES (now (present .entry))) d) (take count (declarationsOf DECLARATIONS (now (owner .entry)) (now (key .entry)) (now (realm .entry)) (now (provides .entry)))) ⌝ }
+{
+    let port = model::declared_port(d);
+    let o = model::owner_in(d);
+    let here = flag_at(present, o);
+    if !(d.provides & here) {
+        return true;
+    }
+    let b = bucket_of(0, port.key, port.realm);
+    let mut c = first[b];
+    while 0 < c {
+        let i = c - 1;
+        let e = owner[i];
+        let also = flag_at(present, e);
+        let same = (port.key == key[i]) & (port.realm == realm[i]);
+        let rivals = d.provides & provides[i] & here & also & same;
+        if rivals & (o != e) {
+            return false;
+        }
+        c = next[i];
+    }
+    true
+}
+
+// Whether provisions of one port by present owners have one owner.
+pub fn one_owner(
+    owner: &[usize; DECLARATIONS],
+    key: &[u64; DECLARATIONS],
+    realm: &[u64; DECLARATIONS],
+    provides: &[bool; DECLARATIONS],
+    present: &[bool; IDENTITIES],
+    count: usize,
+) -> bool
+    ensures { λ r. ⌜ r ≡ all (λ d. all (sameOwner (flag IDENTITIES (now (present .entry))) d) (take count (declarationsOf DECLARATIONS (now (owner .entry)) (now (key .entry)) (now (realm .entry)) (now (provides .entry))))) (take count (declarationsOf DECLARATIONS (now (owner .entry)) (now (key .entry)) (now (realm .entry)) (now (provides .entry)))) ⌝ }
+{
+    let end = at_most(count, DECLARATIONS);
+    let mut first = [0usize; BUCKETS];
+    let mut next = [0usize; DECLARATIONS];
+    chain_ports(key, realm, end, &mut first, &mut next);
+    let mut i = 0;
+    while i < end {
+        let port = Port {
+            key: key[i],
+            realm: realm[i],
+        };
+        let d = model::declaration_of(owner[i], provides[i], port);
+        if !one_provider(owner, key, realm, provides, present, end, &first, &next, d) {
+            return false;
+        }
+        i += 1;
+    }
+    true
+}
+
+// Whether the columns have a declaration of this owner and port, a provision or a dependency: only their chain is read.
+pub fn declared(
+    owner: &[usize; DECLARATIONS],
+    key: &[u64; DECLARATIONS],
+    realm: &[u64; DECLARATIONS],
+    provides: &[bool; DECLARATIONS],
+    count: usize,
+    first: &[usize; BUCKETS],
+    next: &[usize; DECLARATIONS],
+    o: usize,
+    port: Port,
+    provision: bool,
+) -> bool
+    requires { ⌜ Chained (bucketAt (now owner) (now key) (now realm)) DECLARATIONS count (now first) (now next) ⌝ }
+    ensures { λ r. ⌜ r ≡ any (isDeclaration o port provision) (take count (declarationsOf DECLARATIONS (now (owner .entry)) (now (key .entry)) (now (realm .entry)) (now (provides .entry)))) ⌝ }
+{
+    let b = bucket_of(o, port.key, port.realm);
+    let mut c = first[b];
+    while 0 < c {
+        let i = c - 1;
+        let same = (key[i] == port.key) & (realm[i] == port.realm);
+        if (owner[i] == o) & same & (provides[i] == provision) {
+            return true;
+        }
+        c = next[i];
+    }
+    false
+}
+
+// Whether the columns have a dependency of this owner and port, each of which is marked as met: only their chain is read.
+pub fn meet(
+    owner: &[usize; DECLARATIONS],
+    key: &[u64; DECLARATIONS],
+    realm: &[u64; DECLARATIONS],
+    provides: &[bool; DECLARATIONS],
+    count: usize,
+    first: &[usize; BUCKETS],
+    next: &[usize; DECLARATIONS],
+    o: usize,
+    port: Port,
+    met: &mut [bool; DECLARATIONS],
+) -> bool
+    requires { ⌜ Chained (bucketAt (now owner) (now key) (now realm)) DECLARATIONS count (now first) (now next) × (length (now met) ≡ DECLARATIONS) ⌝ }
+    ensures { λ r. ⌜ (r ≡ any (isDeclaration o port false) (take count (declarationsOf DECLARATIONS (now (owner .entry)) (now (key .entry)) (now (realm .entry)) (now (provides .entry))))) × (length (now (met .exit)) ≡ DECLARATIONS) × ((i : ℕ) → i < count → getD (now (met .exit)) i false ≡ isDeclaration o port false (declarationAt (now (owner .entry)) (now (key .entry)) (now (realm .entry)) (now (provides .entry)) i) || getD (now (met .entry)) i false) ⌝ }
+{
+    let b = bucket_of(o, port.key, port.realm);
+    let mut found = false;
+    let mut c = first[b];
+    while 0 < c {
+        let i = c - 1;
+        let same = (key[i] == port.key) & (realm[i] == port.realm);
+        if (owner[i] == o) & same & !provides[i] {
+            met[i] = true;
+            found = true;
+        }
+        c = next[i];
+    }
+    found
+}
+
+// Whether a live link's ends are installed, its provider serving, both declared its port, and its consumer is no provider of a live link so far:
+// its provider is marked as seen, and its consumer's dependencies on the port as met.
+pub fn link_ok(
+    owner: &[usize; DECLARATIONS],
+    key: &[u64; DECLARATIONS],
+    realm: &[u64; DECLARATIONS],
+    provides: &[bool; DECLARATIONS],
+    count: usize,
+    first: &[usize; BUCKETS],
+    next: &[usize; DECLARATIONS],
+    installed: &[bool; IDENTITIES],
+    serving: &[bool; IDENTITIES],
+    link: Link,
+    seen: &mut [bool; IDENTITIES],
+    met: &mut [bool; DECLARATIONS],
+) -> bool
+    requires { ⌜ Chained (bucketAt (now owner) (now key) (now realm)) DECLARATIONS count (now first) (now next) × (length (now seen) ≡ IDENTITIES) × (length (now met) ≡ DECLARATIONS) ⌝ }
+    ensures { λ r. ⌜ (r ≡ linkOk (flag IDENTITIES (now (installed .entry))) (flag IDENTITIES (now (serving .entry))) (take count (declarationsOf DECLARATIONS (now (owner .entry)) (now (key .entry)) (now (realm .entry)) (now (provides .entry)))) link && unmarked (marked (now (seen .entry)) link) link) × (r ≡ true → (now (seen .exit) ≡ marked (now (seen .entry)) link) × (length (now (seen .exit)) ≡ IDENTITIES) × (length (now (met .exit)) ≡ DECLARATIONS) × ((i : ℕ) → i < count → getD (now (met .exit)) i false ≡ meets (declarationAt (now (owner .entry)) (now (key .entry)) (now (realm .entry)) (now (provides .entry)) i) link || getD (now (met .entry)) i false)) ⌝ }
+{
+    if !link.live {
+        return true;
+    }
+    let c = model::consumer_in(link);
+    let p = model::provider_in(link);
+    if !(flag_at(installed, c) & flag_at(serving, p)) {
+        return false;
+    }
+    let port = model::port_in(link);
+    let wanted = meet(
+        owner,
+        key,
+        realm,
+        provides,
+        count,
+        first,
+        next,
+        c,
+        port,
+        met,
+    );
+    let offered = declared(
+        owner,
+        key,
+        realm,
+        provides,
+        count,
+        first,
+        next,
+        p,
+        port,
+        true,
+    );
+    seen[p] = true;
+    wanted & offered & !seen[c]
+}
+
+// Whether each link below the count is ok and the links past it are blank; the dependencies that a live link meets are marked.
+pub fn links_ok(
+    links: [Link; LINKS],
+    linked: usize,
+    owner: &[usize; DECLARATIONS],
+    key: &[u64; DECLARATIONS],
+    realm: &[u64; DECLARATIONS],
+    provides: &[bool; DECLARATIONS],
+    count: usize,
+    installed: &[bool; IDENTITIES],
+    serving: &[bool; IDENTITIES],
+    met: &mut [bool; DECLARATIONS],
+) -> bool
+    requires { ⌜ now met ≡ replicate DECLARATIONS false ⌝ }
+    ensures { λ r. ⌜ (r ≡ (all (linkOk (flag IDENTITIES (now (installed .entry))) (flag IDENTITIES (now (serving .entry))) (take count (declarationsOf DECLARATIONS (now (owner .entry)) (now (key .entry)) (now (realm .entry)) (now (provides .entry))))) (take linked links) && ordered (take linked links)) && all isBlankLink (drop linked links)) × (r ≡ true → (i : ℕ) → i < count → i < DECLARATIONS → getD (now (met .exit)) i false ≡ any (meets (declarationAt (now (owner .entry)) (now (key .entry)) (now (realm .entry)) (now (provides .entry)) i)) (take linked links)) ⌝ }
+{
+    let size = at_most(count, DECLARATIONS);
+    let mut first = [0usize; BUCKETS];
+    let mut next = [0usize; DECLARATIONS];
+    chain_declarations(owner, key, realm, size, &mut first, &mut next);
+    let end = at_most(linked, LINKS);
+    let mut seen = [false; IDENTITIES];
+    let mut i = 0;
+    while i < end {
+        let l = links[i];
+        if !link_ok(
+            owner,
+            key,
+            realm,
+            provides,
+            size,
+            &first,
+            &next,
+            installed,
+            serving,
+            l,
+            &mut seen,
+            met,
+        ) {
+            return false;
+        }
+        i += 1;
+    }
+    let mut rest = model::blank_link();
+    while i < LINKS {
+        let l = links[i];
+        rest = model::either_link(rest, l);
+        i += 1;
+    }
+    model::is_blank_link(rest)
+}
+
+// Whether each dependency of an installed owner is met.
+pub fn covered(
+    owner: &[usize; DECLARATIONS],
+    provides: &[bool; DECLARATIONS],
+    count: usize,
+    installed: &[bool; IDENTITIES],
+    met: &[bool; DECLARATIONS],
+) -> bool
+    ensures { λ r. ⌜ ((key realm : List ℕ) (ls : List Link) → ((i : ℕ) → i < count → i < DECLARATIONS → getD (now (met .entry)) i false ≡ any (meets (declarationAt (now (owner .entry)) key realm (now (provides .entry)) i)) ls) → r ≡ all (isCovered (flag IDENTITIES (now (installed .entry))) ls) (take count (declarationsOf DECLARATIONS (now (owner .entry)) key realm (now (provides .entry))))) ⌝ }
+{
+    let end = at_most(count, DECLARATIONS);
+    let mut i = 0;
+    while i < end {
+        let o = owner[i];
+        let here = flag_at(installed, o);
+        if !provides[i] & here & !met[i] {
+            return false;
+        }
+        i += 1;
+    }
+    true
+}

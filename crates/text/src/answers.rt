@@ -1,0 +1,99 @@
+// What commands, checks and observers answer, each part after a space.
+use crate::bytes;
+use crate::field;
+use crate::number;
+use crate::records;
+use model::Binding;
+use model::OptionGeneration;
+use model::OptionPhase;
+use model::Resolution;
+use scans::CommittedBindings;
+use scans::Identities;
+use scans::TargetBindings;
+use sizes::DECLARATIONS;
+use sizes::IDENTITIES;
+use sizes::LINKS;
+
+// Of a command or a check: 0 is done, any other number a refusal.
+pub fn answer(out: &mut [u8], at: usize, number: u8) -> usize {
+    if number == 0 {
+        return bytes(out, at, b" done");
+    }
+    let at = bytes(out, at, b" refused");
+    field(out, at, number as u64)
+}
+
+pub fn phase(out: &mut [u8], at: usize, answer: OptionPhase) -> usize {
+    match answer {
+        OptionPhase::Some(now) => records::phase(out, at, now),
+        OptionPhase::None => bytes(out, at, b" none"),
+    }
+}
+
+pub fn generation(out: &mut [u8], at: usize, answer: OptionGeneration) -> usize {
+    match answer {
+        OptionGeneration::Some(generation) => field(out, at, generation),
+        OptionGeneration::None => bytes(out, at, b" none"),
+    }
+}
+
+pub fn resolution(out: &mut [u8], at: usize, answer: Resolution) -> usize {
+    match answer {
+        Resolution::Provider(id) => field(out, at, id as u64),
+        Resolution::None => bytes(out, at, b" none"),
+    }
+}
+
+// KEY/REALM@PROVIDER.
+fn binding(out: &mut [u8], at: usize, binding: Binding) -> usize {
+    let at = field(out, at, binding.key);
+    let at = bytes(out, at, b"/");
+    let at = number(out, at, binding.realm);
+    let at = bytes(out, at, b"@");
+    number(out, at, binding.provider as u64)
+}
+
+// What is said of a list before its members.
+fn list(out: &mut [u8], at: usize, count: usize) -> usize {
+    if count == 0 {
+        return bytes(out, at, b" empty");
+    }
+    at
+}
+
+pub fn identities(out: &mut [u8], at: usize, answer: Identities) -> usize {
+    let end = loops::at_most(answer.count, IDENTITIES);
+    let mut at = list(out, at, end);
+    let mut i = 0;
+    while i < end {
+        let id = answer.ids[i];
+        at = field(out, at, id as u64);
+        i += 1;
+    }
+    at
+}
+
+pub fn target(out: &mut [u8], at: usize, answer: TargetBindings) -> usize {
+    if !answer.there {
+        return bytes(out, at, b" none");
+    }
+    let end = loops::at_most(answer.count, DECLARATIONS);
+    let mut at = list(out, at, end);
+    let mut i = 0;
+    while i < end {
+        at = binding(out, at, answer.bindings[i]);
+        i += 1;
+    }
+    at
+}
+
+pub fn committed(out: &mut [u8], at: usize, answer: CommittedBindings) -> usize {
+    let end = loops::at_most(answer.count, LINKS);
+    let mut at = list(out, at, end);
+    let mut i = 0;
+    while i < end {
+        at = binding(out, at, answer.bindings[i]);
+        i += 1;
+    }
+    at
+}

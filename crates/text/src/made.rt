@@ -1,0 +1,89 @@
+// Records made of a line's operands, in the order in which the tables are written, the first the record's place; port lists.
+use crate::words::Line;
+use model::Declaration;
+use model::Link;
+use model::Node;
+use model::Parent;
+use model::Phase;
+use model::Port;
+use model::PortList;
+
+pub fn identity_of(operand: u64) -> usize {
+    operand as usize
+}
+
+// The phase of this place among the four.
+fn phase_at(place: u64) -> Phase {
+    match place {
+        0 => Phase::Inactive,
+        1 => Phase::Loading,
+        2 => Phase::Active,
+        _ => Phase::Unloading,
+    }
+}
+
+pub fn parent_of(none: bool, operand: u64) -> Parent {
+    if none {
+        Parent::None
+    } else {
+        Parent::Of(identity_of(operand))
+    }
+}
+
+pub fn port_of(key: u64, realm: u64) -> Port {
+    Port {
+        key: key,
+        realm: realm,
+    }
+}
+
+// PLACE PRESENT RETIRED PHASE RESTORING PARENT GENERATION
+pub fn node_of(line: Line) -> Node {
+    let phase = phase_at(line.fourth);
+    let parent = parent_of(line.none, line.sixth);
+    let mut node = model::new_node(parent);
+    node.present = line.second == 1;
+    node.retired = line.third == 1;
+    node.restoring = line.fifth == 1;
+    node.generation = line.seventh;
+    model::with_phase(phase, node)
+}
+
+// PLACE OWNER KEY REALM PROVIDES
+pub fn declaration_of(line: Line) -> Declaration {
+    let port = port_of(line.third, line.fourth);
+    model::declaration_of(identity_of(line.second), line.fifth == 1, port)
+}
+
+// PLACE CONSUMER KEY REALM PROVIDER LIVE
+pub fn link_of(line: Line) -> Link {
+    let binding = model::binding_of(port_of(line.third, line.fourth), identity_of(line.fifth));
+    let mut link = model::live_link(identity_of(line.second), binding);
+    link.live = line.sixth == 1;
+    link
+}
+
+// The empty list.
+pub fn no_ports() -> PortList {
+    let blank = model::blank_port();
+    PortList {
+        ports: [blank; 32],
+        count: 0,
+    }
+}
+
+// COUNT KEY REALM STEP: so many more ports, KEY/REALM and then keys further by STEP; the entries past the count have such ports too.
+pub fn more_ports(list: PortList, count: usize, key: u64, realm: u64, step: u64) -> PortList {
+    let mut ports = list.ports;
+    let mut key = key;
+    let mut i = list.count;
+    while i < 32 {
+        ports[i] = port_of(key, realm);
+        key = std::num::wrapping_add_u64(key, step);
+        i += 1;
+    }
+    PortList {
+        ports: ports,
+        count: std::num::wrapping_add_usize(list.count, count),
+    }
+}
