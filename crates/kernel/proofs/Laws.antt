@@ -1,7 +1,7 @@
 -- What the methods' proofs cite.
-pub mod Sized
+pub mod Lengths
 pub mod Outcomes
 pub mod Observers
 pub mod Rows
 pub mod Targets
-pub mod Kept
+pub mod Edits

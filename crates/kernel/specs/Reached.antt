@@ -42,7 +42,10 @@ begunBy cs id = begunFrom newKernel id cs none
 
 -- the iteration rule of one component of a kernel value, over what its observers, check_iteration and leave_if_changed answer
 abbrev pub RuleOf : Kernel → ℕ → Option (List Binding) → Type 0
-RuleOf k id begun = let o = command k (Command.leaveIfChanged id) in Rule (ask k none (λ T. phase T id)) begun (ask k [] (λ T. committed (T .links) id)) (ask k none (λ T. target T id)) (ask k (Reply.refused Error.Damaged) (λ T. checkIteration T id)) (o .reply) (ask (kernelOf (o .kernel)) none (λ T. phase T id))
+RuleOf k id begun =
+    let o = command k (Command.leaveIfChanged id) in
+    let iteration = ask k (Reply.refused Error.Damaged) (λ T. checkIteration T id) in
+    Rule (ask k none (λ T. phase T id)) begun (ask k [] (λ T. committed (T .links) id)) (ask k none (λ T. target T id)) iteration (o .reply) (ask (kernelOf (o .kernel)) none (λ T. phase T id))
 
 -- demand 3: one claim about every list of commands, for every identity
 abbrev pub Demand3 : Type 0
@@ -54,4 +57,7 @@ ReachedSound = (cs : List Command) → (isSound (reachedBy cs) ≡ true) × ((c 
 
 -- a begin that gives 9, and not for its generation, is done after compact_bindings
 abbrev pub SpaceAfterCompaction : Type 0
-SpaceAfterCompaction = (cs : List Command) (id : ℕ) → (command (reachedBy cs) (Command.begin id)) .reply ≡ Reply.refused Error.Capacity → (ask (reachedBy cs) none (λ T. episodeGeneration T id) ≡ some lastGeneration → ⊥) → (command (kernelOf ((command (reachedBy cs) Command.compactBindings) .kernel)) (Command.begin id)) .reply ≡ Reply.done
+SpaceAfterCompaction =
+    (cs : List Command) (id : ℕ) → (command (reachedBy cs) (Command.begin id)) .reply ≡ Reply.refused Error.Capacity →
+    (ask (reachedBy cs) none (λ T. episodeGeneration T id) ≡ some lastGeneration → ⊥) →
+    (command (kernelOf ((command (reachedBy cs) Command.compactBindings) .kernel)) (Command.begin id)) .reply ≡ Reply.done

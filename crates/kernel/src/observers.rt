@@ -6,7 +6,7 @@ ghost use mathlib.Core.Option.{none};
 ghost use Rattle.kernel.specs.Fields.{ask};
 ghost use Rattle.model.specs.Answers.{optionPhase, optionGeneration};
 ghost use Rattle.model.specs.Observers.{contains, phase, retired, cleanupStarted, episodeGeneration, bindingRecords, identitySlots, declarationRecords, dependencyDeclared, provisionReserved, ids, children};
-ghost use Rattle.scans.specs.Answers.{identities};
+ghost use Rattle.scans.specs.Results.{identities};
 use crate::Kernel;
 use model::OptionGeneration;
 use model::OptionPhase;

@@ -6,7 +6,7 @@ ghost use Rattle.kernel.specs.Fields.{ask};
 ghost use Rattle.model.specs.Answers.{resolution};
 ghost use Rattle.model.specs.Resolution.{resolve, target, committed};
 ghost use Rattle.model.specs.Tables.{providing};
-ghost use Rattle.scans.specs.Answers.{targetBindings, committedBindings};
+ghost use Rattle.scans.specs.Results.{targetBindings, committedBindings};
 use crate::Kernel;
 use model::Port;
 use model::Resolution;

@@ -10,5 +10,5 @@ pub mod Marking
 pub mod Distinct
 pub mod Parents
 pub mod Chains
-pub mod Kept
+pub mod Keeper
 pub mod Edit

@@ -14,4 +14,4 @@ pub mod Sums
 pub mod Arrays
 pub mod Blanks
 pub mod Live
-pub mod Entry
+pub mod Pieces

@@ -7,7 +7,7 @@ pub mod Lifecycle
 pub mod Begin
 pub mod FinishCleanup
 pub mod Commands
-pub mod Kept
+pub mod IterationInvariant
 pub mod Iteration
 pub mod Space
 pub mod Points

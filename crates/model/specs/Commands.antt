@@ -84,16 +84,16 @@ report T (Command.remove id) = Reply.done
 report T Command.compactBindings = Reply.removed (bindingsRemoved T)
 report T Command.compactDeclarations = Reply.removed (declarationsRemoved T)
 
-pub record Outcome : Type 0 where
+pub record Step : Type 0 where
   pub tables : Tables
   pub reply : Reply
 
 -- a refusal leaves the tables unchanged
-unfoldable pub settle : Option Error → Tables → Outcome → Outcome
+unfoldable pub settle : Option Error → Tables → Step → Step
 settle none T o = o
 settle (some e) T o = record { tables = T; reply = Reply.refused e }
 
-unfoldable pub step : Sizes → Tables → Command → Outcome
+unfoldable pub step : Sizes → Tables → Command → Step
 step S T c = settle (first (tests S T c)) T (record { tables = result T c; reply = report T c })
 
 -- a list of commands, each on what the one before handed back, after a refusal too
@@ -106,5 +106,5 @@ abbrev pub run : Sizes → List Command → Tables
 run S cs = runFrom S empty cs
 
 -- update_node, which is no command: its tests, and the node written anew
-unfoldable pub updateNode : Tables → ℕ → Node → Outcome
+unfoldable pub updateNode : Tables → ℕ → Node → Step
 updateNode T id n = settle (first (updateTests T id n)) T (record { tables = withNode T id n; reply = Reply.done })

@@ -19,7 +19,10 @@ pub fn declaration_columns(
     provides: &mut [bool; DECLARATIONS],
 ) -> bool
     requires { ⌜ (length (now owner) ≡ DECLARATIONS) × (length (now key) ≡ DECLARATIONS) × (length (now realm) ≡ DECLARATIONS) × (length (now provides) ≡ DECLARATIONS) ⌝ }
-    ensures { λ r. ⌜ (take count (declarationsOf DECLARATIONS (now (owner .exit)) (now (key .exit)) (now (realm .exit)) (now (provides .exit))) ≡ take count declarations) × (r ≡ all isBlankDeclaration (drop count declarations)) ⌝ }
+    ensures { λ r. ⌜
+        (take count (declarationsOf DECLARATIONS (now (owner .exit)) (now (key .exit)) (now (realm .exit)) (now (provides .exit))) ≡ take count declarations)
+        × (r ≡ all isBlankDeclaration (drop count declarations))
+        ⌝ }
 {
     let end = at_most(count, DECLARATIONS);
     let mut i = 0;

@@ -5,7 +5,7 @@ ghost use lib.ListN.{take};
 ghost use Rattle.model.specs.Lists.{any, places};
 ghost use Rattle.model.specs.Records.{isChildOf};
 ghost use Rattle.model.specs.Soundness.{parentOk};
-ghost use Rattle.scans.specs.Answers.{flagsOf, identities};
+ghost use Rattle.scans.specs.Results.{flagsOf, identities};
 ghost use Rattle.sizes.specs.Sizes.{IDENTITIES};
 use crate::Identities;
 use crate::NodeFlags;

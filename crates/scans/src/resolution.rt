@@ -7,7 +7,7 @@ ghost use Rattle.model.specs.Records.{isProviding};
 ghost use Rattle.model.specs.Answers.{resolution};
 ghost use Rattle.model.specs.Resolution.{resolve, dependencyPorts, bindPorts, committed};
 ghost use Rattle.loops.specs.Columns.{declarationsOf, flag};
-ghost use Rattle.scans.specs.Answers.{targetBindings, committedBindings};
+ghost use Rattle.scans.specs.Results.{targetBindings, committedBindings};
 ghost use Rattle.sizes.specs.Sizes.{DECLARATIONS, IDENTITIES};
 use crate::CommittedBindings;
 use crate::TargetBindings;
@@ -34,7 +34,10 @@ pub fn resolve_in(
     count: usize,
     port: Port,
 ) -> Resolution
-    ensures { λ r. ⌜ r ≡ resolution (resolve (flag IDENTITIES (now (providing .entry))) (take count (declarationsOf DECLARATIONS (now (owner .entry)) (now (key .entry)) (now (realm .entry)) (now (provides .entry)))) port) ⌝ }
+    ensures { λ r. ⌜
+        r ≡ resolution (resolve (flag IDENTITIES (now (providing .entry)))
+        (take count (declarationsOf DECLARATIONS (now (owner .entry)) (now (key .entry)) (now (realm .entry)) (now (provides .entry)))) port)
+        ⌝ }
 {
     let end = at_most(count, DECLARATIONS);
     let mut i = 0;
@@ -60,7 +63,11 @@ pub fn target_in(
     count: usize,
     id: usize,
 ) -> TargetBindings
-    ensures { λ r. ⌜ r ≡ targetBindings (bindPorts (resolve (flag IDENTITIES (now (providing .entry))) (take count (declarationsOf DECLARATIONS (now (owner .entry)) (now (key .entry)) (now (realm .entry)) (now (provides .entry))))) (dependencyPorts (take count (declarationsOf DECLARATIONS (now (owner .entry)) (now (key .entry)) (now (realm .entry)) (now (provides .entry)))) id)) ⌝ }
+    ensures { λ r. ⌜
+        r ≡ targetBindings (bindPorts (resolve (flag IDENTITIES (now (providing .entry)))
+        (take count (declarationsOf DECLARATIONS (now (owner .entry)) (now (key .entry)) (now (realm .entry)) (now (provides .entry)))))
+        (dependencyPorts (take count (declarationsOf DECLARATIONS (now (owner .entry)) (now (key .entry)) (now (realm .entry)) (now (provides .entry)))) id))
+        ⌝ }
 {
     let end = at_most(count, DECLARATIONS);
     let blank = model::blank_binding();

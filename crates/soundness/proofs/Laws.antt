@@ -1,2 +1,2 @@
 -- What the proof of the entry test cites.
-pub mod Entry
+pub mod EntryTest

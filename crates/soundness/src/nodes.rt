@@ -12,7 +12,8 @@ use model::Node;
 use model::Parent;
 use sizes::IDENTITIES;
 
-// Whether each node below the count is consistent, and a present one's parent present and smaller, and the nodes past it are blank. Where so, it has written which nodes are present, installed and serving: a blank one is none of them.
+// Whether each node below the count is consistent, and a present one's parent present and smaller, and the nodes past it are blank.
+// Where so, it has written which nodes are present, installed and serving: a blank one is none of them.
 pub fn nodes_ok(
     nodes: [Node; IDENTITIES],
     count: usize,
@@ -21,7 +22,11 @@ pub fn nodes_ok(
     serving: &mut [bool; IDENTITIES],
 ) -> bool
     requires { ⌜ (now present ≡ replicate IDENTITIES false) × (now installed ≡ replicate IDENTITIES false) × (now serving ≡ replicate IDENTITIES false) ⌝ }
-    ensures { λ r. ⌜ (r ≡ allAt (nodeOk (take count nodes)) 0 (take count nodes) && all isBlankNode (drop count nodes)) × (r ≡ true → (now (present .exit) ≡ map (λ n. n .present) nodes) × (now (installed .exit) ≡ map isInstalled nodes) × (now (serving .exit) ≡ map isServing nodes)) ⌝ }
+    ensures { λ r. ⌜
+        (r ≡ allAt (nodeOk (take count nodes)) 0 (take count nodes) && all isBlankNode (drop count nodes))
+        × (r ≡ true → (now (present .exit) ≡ map (λ n. n .present) nodes)
+        × (now (installed .exit) ≡ map isInstalled nodes) × (now (serving .exit) ≡ map isServing nodes))
+        ⌝ }
 {
     let end = at_most(count, IDENTITIES);
     let mut i = 0;

@@ -52,7 +52,10 @@ pub fn one_provider(
     d: Declaration,
 ) -> bool
     requires { ⌜ Chained (bucketAt [] (now key) (now realm)) DECLARATIONS count (now first) (now next) ⌝ }
-    ensures { λ r. ⌜ r ≡ all (sameOwner (flag IDENTITIES (now (present .entry))) d) (take count (declarationsOf DECLARATIONS (now (owner .entry)) (now (key .entry)) (now (realm .entry)) (now (provides .entry)))) ⌝ }
+    ensures { λ r. ⌜
+        r ≡ all (sameOwner (flag IDENTITIES (now (present .entry))) d)
+        (take count (declarationsOf DECLARATIONS (now (owner .entry)) (now (key .entry)) (now (realm .entry)) (now (provides .entry))))
+        ⌝ }
 {
     let port = model::declared_port(d);
     let o = model::owner_in(d);
@@ -85,7 +88,11 @@ pub fn one_owner(
     present: &[bool; IDENTITIES],
     count: usize,
 ) -> bool
-    ensures { λ r. ⌜ r ≡ all (λ d. all (sameOwner (flag IDENTITIES (now (present .entry))) d) (take count (declarationsOf DECLARATIONS (now (owner .entry)) (now (key .entry)) (now (realm .entry)) (now (provides .entry))))) (take count (declarationsOf DECLARATIONS (now (owner .entry)) (now (key .entry)) (now (realm .entry)) (now (provides .entry)))) ⌝ }
+    ensures { λ r. ⌜
+        r ≡ all (λ d. all (sameOwner (flag IDENTITIES (now (present .entry))) d)
+        (take count (declarationsOf DECLARATIONS (now (owner .entry)) (now (key .entry)) (now (realm .entry)) (now (provides .entry)))))
+        (take count (declarationsOf DECLARATIONS (now (owner .entry)) (now (key .entry)) (now (realm .entry)) (now (provides .entry))))
+        ⌝ }
 {
     let end = at_most(count, DECLARATIONS);
     let mut first = [0usize; BUCKETS];
@@ -149,7 +156,12 @@ pub fn meet(
     met: &mut [bool; DECLARATIONS],
 ) -> bool
     requires { ⌜ Chained (bucketAt (now owner) (now key) (now realm)) DECLARATIONS count (now first) (now next) × (length (now met) ≡ DECLARATIONS) ⌝ }
-    ensures { λ r. ⌜ (r ≡ any (isDeclaration o port false) (take count (declarationsOf DECLARATIONS (now (owner .entry)) (now (key .entry)) (now (realm .entry)) (now (provides .entry))))) × (length (now (met .exit)) ≡ DECLARATIONS) × ((i : ℕ) → i < count → getD (now (met .exit)) i false ≡ isDeclaration o port false (declarationAt (now (owner .entry)) (now (key .entry)) (now (realm .entry)) (now (provides .entry)) i) || getD (now (met .entry)) i false) ⌝ }
+    ensures { λ r. ⌜
+        (r ≡ any (isDeclaration o port false) (take count (declarationsOf DECLARATIONS (now (owner .entry)) (now (key .entry)) (now (realm .entry)) (now (provides .entry)))))
+        × (length (now (met .exit)) ≡ DECLARATIONS)
+        × ((i : ℕ) → i < count → getD (now (met .exit)) i false
+        ≡ isDeclaration o port false (declarationAt (now (owner .entry)) (now (key .entry)) (now (realm .entry)) (now (provides .entry)) i) || getD (now (met .entry)) i false)
+        ⌝ }
 {
     let b = bucket_of(o, port.key, port.realm);
     let mut found = false;
@@ -183,7 +195,15 @@ pub fn link_ok(
     met: &mut [bool; DECLARATIONS],
 ) -> bool
     requires { ⌜ Chained (bucketAt (now owner) (now key) (now realm)) DECLARATIONS count (now first) (now next) × (length (now seen) ≡ IDENTITIES) × (length (now met) ≡ DECLARATIONS) ⌝ }
-    ensures { λ r. ⌜ (r ≡ linkOk (flag IDENTITIES (now (installed .entry))) (flag IDENTITIES (now (serving .entry))) (take count (declarationsOf DECLARATIONS (now (owner .entry)) (now (key .entry)) (now (realm .entry)) (now (provides .entry)))) link && unmarked (marked (now (seen .entry)) link) link) × (r ≡ true → (now (seen .exit) ≡ marked (now (seen .entry)) link) × (length (now (seen .exit)) ≡ IDENTITIES) × (length (now (met .exit)) ≡ DECLARATIONS) × ((i : ℕ) → i < count → getD (now (met .exit)) i false ≡ meets (declarationAt (now (owner .entry)) (now (key .entry)) (now (realm .entry)) (now (provides .entry)) i) link || getD (now (met .entry)) i false)) ⌝ }
+    ensures { λ r. ⌜
+        (r ≡ linkOk (flag IDENTITIES (now (installed .entry))) (flag IDENTITIES (now (serving .entry)))
+        (take count (declarationsOf DECLARATIONS (now (owner .entry)) (now (key .entry)) (now (realm .entry)) (now (provides .entry)))) link
+        && unmarked (marked (now (seen .entry)) link) link)
+        × (r ≡ true → (now (seen .exit) ≡ marked (now (seen .entry)) link) × (length (now (seen .exit)) ≡ IDENTITIES)
+        × (length (now (met .exit)) ≡ DECLARATIONS)
+        × ((i : ℕ) → i < count → getD (now (met .exit)) i false
+        ≡ meets (declarationAt (now (owner .entry)) (now (key .entry)) (now (realm .entry)) (now (provides .entry)) i) link || getD (now (met .entry)) i false))
+        ⌝ }
 {
     if !link.live {
         return true;
@@ -236,7 +256,13 @@ pub fn links_ok(
     met: &mut [bool; DECLARATIONS],
 ) -> bool
     requires { ⌜ now met ≡ replicate DECLARATIONS false ⌝ }
-    ensures { λ r. ⌜ (r ≡ (all (linkOk (flag IDENTITIES (now (installed .entry))) (flag IDENTITIES (now (serving .entry))) (take count (declarationsOf DECLARATIONS (now (owner .entry)) (now (key .entry)) (now (realm .entry)) (now (provides .entry))))) (take linked links) && ordered (take linked links)) && all isBlankLink (drop linked links)) × (r ≡ true → (i : ℕ) → i < count → i < DECLARATIONS → getD (now (met .exit)) i false ≡ any (meets (declarationAt (now (owner .entry)) (now (key .entry)) (now (realm .entry)) (now (provides .entry)) i)) (take linked links)) ⌝ }
+    ensures { λ r. ⌜
+        (r ≡ (all (linkOk (flag IDENTITIES (now (installed .entry))) (flag IDENTITIES (now (serving .entry)))
+        (take count (declarationsOf DECLARATIONS (now (owner .entry)) (now (key .entry)) (now (realm .entry)) (now (provides .entry))))) (take linked links)
+        && ordered (take linked links)) && all isBlankLink (drop linked links))
+        × (r ≡ true → (i : ℕ) → i < count → i < DECLARATIONS → getD (now (met .exit)) i false
+        ≡ any (meets (declarationAt (now (owner .entry)) (now (key .entry)) (now (realm .entry)) (now (provides .entry)) i)) (take linked links))
+        ⌝ }
 {
     let size = at_most(count, DECLARATIONS);
     let mut first = [0usize; BUCKETS];
@@ -282,7 +308,11 @@ pub fn covered(
     installed: &[bool; IDENTITIES],
     met: &[bool; DECLARATIONS],
 ) -> bool
-    ensures { λ r. ⌜ ((key realm : List ℕ) (ls : List Link) → ((i : ℕ) → i < count → i < DECLARATIONS → getD (now (met .entry)) i false ≡ any (meets (declarationAt (now (owner .entry)) key realm (now (provides .entry)) i)) ls) → r ≡ all (isCovered (flag IDENTITIES (now (installed .entry))) ls) (take count (declarationsOf DECLARATIONS (now (owner .entry)) key realm (now (provides .entry))))) ⌝ }
+    ensures { λ r. ⌜
+        ((key realm : List ℕ) (ls : List Link) → ((i : ℕ) → i < count → i < DECLARATIONS → getD (now (met .entry)) i false
+        ≡ any (meets (declarationAt (now (owner .entry)) key realm (now (provides .entry)) i)) ls)
+        → r ≡ all (isCovered (flag IDENTITIES (now (installed .entry))) ls) (take count (declarationsOf DECLARATIONS (now (owner .entry)) key realm (now (provides .entry)))))
+        ⌝ }
 {
     let end = at_most(count, DECLARATIONS);
     let mut i = 0;

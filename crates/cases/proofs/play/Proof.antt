@@ -1,7 +1,5 @@
 -- `cases::play` is safe and ends: each turn passes a byte.
-use Prim.Native.{Nat._-_}
-use borrow.{Author.Needs.needs}
-use lib.{ListN.length}
+use Rattle.model.proofs.Logic.{_-_, length, needs}
 use Rattle.cases.proofs.{play.Statement.statement}
 use Rattle.cases.proofs.play.Tie as tie
 
@@ -12,18 +10,7 @@ abbrev μ-loop : tie.MeasureT-loop
 μ-loop lines state₀ start₀ i₀ state start i = length lines - i
 
 pub play-spec : {M : Type 1} → statement M
-play-spec =
-    tie.close
-    (tie.spec
-    Inv-loop
-    μ-loop
-    (λ c. search needs)  -- loop-holds
-    (λ c. search needs)  -- shared-slice-read-if1
-    (λ c. search needs)  -- part-step-start
-    (λ c. search needs)  -- part-step-end
-    (λ c κs. search needs)  -- step-requires
-    (λ c. search needs)  -- add-start
-    (λ c. search needs)  -- add-i
-    (λ c. search needs)  -- loop-less
-    (λ c. search needs)  -- loop-again
+play-spec = tie.close (tie.spec Inv-loop μ-loop
+    (λ c. search needs) (λ c. search needs) (λ c. search needs) (λ c. search needs)  -- loop-holds, shared-slice-read-if1, part-step-start, part-step-end
+    (λ c κs. search needs) (λ c. search needs) (λ c. search needs) (λ c. search needs) (λ c. search needs)  -- step-requires, add-start, add-i, loop-less, loop-again
     (λ c. search needs))  -- returns

@@ -1,7 +1,5 @@
 -- `cases::play_file` is safe and ends: each turn passes a byte.
-use Prim.Native.{Nat._-_}
-use borrow.{Author.Needs.needs}
-use lib.{ListN.length}
+use Rattle.model.proofs.Logic.{_-_, length, needs}
 use Rattle.cases.proofs.{play_file.Statement.statement}
 use Rattle.cases.proofs.play_file.Tie as tie
 
@@ -12,18 +10,8 @@ abbrev μ-loop : tie.MeasureT-loop
 μ-loop lines questions state₀ start₀ i₀ state start i = length lines - i
 
 pub play-file-spec : {M : Type 1} → statement M
-play-file-spec =
-    tie.close
-    (tie.spec
-    Inv-loop
-    μ-loop
-    (λ c. search needs)  -- loop-holds
-    (λ c. search needs)  -- shared-slice-read-if1
-    (λ c. search needs)  -- part-step-or-questions-start
-    (λ c. search needs)  -- part-step-or-questions-end
-    (λ c κs. search needs)  -- step-or-questions-requires
-    (λ c. search needs)  -- add-start
-    (λ c. search needs)  -- add-i
-    (λ c. search needs)  -- loop-less
-    (λ c. search needs)  -- loop-again
+play-file-spec = tie.close (tie.spec Inv-loop μ-loop
+    (λ c. search needs) (λ c. search needs) (λ c. search needs)  -- loop-holds, shared-slice-read-if1, part-step-or-questions-start
+    (λ c. search needs) (λ c κs. search needs) (λ c. search needs) (λ c. search needs)  -- part-step-or-questions-end, step-or-questions-requires, add-start, add-i
+    (λ c. search needs) (λ c. search needs)  -- loop-less, loop-again
     (λ c. search needs))  -- returns

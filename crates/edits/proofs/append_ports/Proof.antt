@@ -1,9 +1,5 @@
 -- `edits::append_ports` meets its contract. The array holds the declarations below the count and those for the first i ports, then blanks.
-use mathlib.Core.{Bool.Bool, List.List, List._++_, List.append-nil, List.map, Path._∙_, Path._≡_, Path.ap, Path.sym}
-use Prim.Native.{Nat._-_, Nat._≤_, Nat.ℕ}
-use native.Mathlib.{Omega.arith}
-use lib.{ListN.length, ListN.length-map, ListN.take, Seq.length-take-le}
-use borrow.{Author.Needs.needs}
+use Rattle.model.proofs.Logic.{Bool, List, _++_, _-_, _∙_, _≡_, _≤_, ap, append-nil, arith, length, length-map, length-take-le, map, needs, sym, take, ℕ}
 use Rattle.model.specs.{Lists.padded, Records.blankDeclaration, Records.blankPort, Records.declarationOf, declared.Port.Port, declared.records.Declaration.Declaration}
 use Rattle.loops.proofs.{Laws.Edit.appended-next}
 use Rattle.edits.proofs.{append_ports.Statement.statement}
@@ -44,19 +40,9 @@ returns c =
     rw (← e) (j .inv .1)
 
 pub append-ports-spec : {M : Type 1} → statement M
-append-ports-spec =
-    tie.close
-    (tie.spec
-    Inv-loop
-    μ-loop
+append-ports-spec = tie.close (tie.spec Inv-loop μ-loop
     loop-holds
-    (λ c. omega arith)  -- mul-p
-    (λ c. omega arith)  -- array-copy-out-p
-    (λ c κs. search needs)  -- declaration-of-requires
-    (λ c. omega arith)  -- add-declarations
-    (λ c. omega arith)  -- mul-declarations
-    (λ c. omega arith)  -- array-set-from-declarations
-    (λ c. omega arith)  -- add-i
-    (λ c. omega arith)  -- loop-less
+    (λ c. omega arith) (λ c. omega arith) (λ c κs. search needs) (λ c. omega arith)  -- mul-p, array-copy-out-p, declaration-of-requires, add-declarations
+    (λ c. omega arith) (λ c. omega arith) (λ c. omega arith) (λ c. omega arith)  -- mul-declarations, array-set-from-declarations, add-i, loop-less
     loop-again
     returns)

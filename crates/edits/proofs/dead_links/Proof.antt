@@ -1,8 +1,5 @@
 -- `edits::dead_links` meets its contract. The links before place i are dead for the consumer, the others are as they came in.
-use mathlib.Core.{Path._∙_, Path._≡_, Path.refl}
-use Prim.Native.{Nat._-_, Nat._≤_}
-use native.Mathlib.{Omega.arith}
-use borrow.{Author.Needs.needs}
+use Rattle.model.proofs.Logic.{_-_, _∙_, _≡_, _≤_, arith, needs, refl}
 use Rattle.loops.proofs.{Laws.Edit.edited, Laws.Edit.edited-most, Laws.Edit.edited-next}
 use Rattle.model.specs.{Records.blankLink, Records.deadFor}
 use Rattle.edits.proofs.{dead_links.Statement.statement}
@@ -33,19 +30,10 @@ returns c =
     (rw e at (j .inv .1)) ∙ edited-most (deadFor (a .id)) (a .t1) (a .count) LINKS (m .result) (omega arith) (m .ensures)
 
 pub dead-links-spec : {M : Type 1} → statement M
-dead-links-spec =
-    tie.close
-    (tie.spec
-    Inv-loop
-    μ-loop
+dead-links-spec = tie.close (tie.spec Inv-loop μ-loop
     (λ c κs. search needs)  -- at-most-requires
     loop-holds
-    (λ c. omega arith)  -- mul-l
-    (λ c. omega arith)  -- array-copy-out-l
-    (λ c κs. search needs)  -- dead-for-requires
-    (λ c. omega arith)  -- mul-links
-    (λ c. omega arith)  -- array-set-from-links
-    (λ c. omega arith)  -- add-i
-    (λ c. omega arith)  -- loop-less
+    (λ c. omega arith) (λ c. omega arith) (λ c κs. search needs) (λ c. omega arith)  -- mul-l, array-copy-out-l, dead-for-requires, mul-links
+    (λ c. omega arith) (λ c. omega arith) (λ c. omega arith)  -- array-set-from-links, add-i, loop-less
     loop-again
     returns)

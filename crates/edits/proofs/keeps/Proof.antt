@@ -1,6 +1,5 @@
 -- `edits::keeps` meets its contract.
-use mathlib.Core.{Path._≡_}
-use borrow.{Author.Needs.needs}
+use Rattle.model.proofs.Logic.{_≡_, needs}
 use Rattle.edits.specs.{declared.Rule.Rule}
 use Rattle.edits.proofs.{keeps.Statement.statement}
 use Rattle.edits.proofs.keeps.Tie as tie
@@ -18,16 +17,9 @@ returns-3 : tie.Need-returns-3
 returns-3 c = let k = c .before .before in rw (k .rule2 .given .1, c .is-dependency-of .ensures)
 
 pub keeps-spec : {M : Type 1} → statement M
-keeps-spec =
-    tie.close
-    (tie.spec
-    (λ c. search needs)  -- enum-told
-    (λ c κs. search needs)  -- owner-in-requires
-    (λ c κs. search needs)  -- flag-at-requires
-    (λ c. search needs)  -- enum-known-rule
-    (λ c κs. search needs)  -- is-declaration-requires
-    (λ c. search needs)  -- enum-known-rule-2
-    (λ c κs. search needs)  -- is-dependency-of-requires
+keeps-spec = tie.close (tie.spec
+    (λ c. search needs) (λ c κs. search needs) (λ c κs. search needs) (λ c. search needs)  -- enum-told, owner-in-requires, flag-at-requires, enum-known-rule
+    (λ c κs. search needs) (λ c. search needs) (λ c κs. search needs)  -- is-declaration-requires, enum-known-rule-2, is-dependency-of-requires
     returns
     returns-2
     returns-3)

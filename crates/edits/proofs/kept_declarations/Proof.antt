@@ -1,9 +1,6 @@
 -- `edits::kept_declarations` meets its contract. The array holds the declarations seen so far that the rule keeps, then blanks, and what is left to scan gives the rest.
-use mathlib.Core.{Logic.⊎-elim, Path._∙_, Path.sym}
-use Prim.Native.{Nat._-_}
-use native.Mathlib.{Omega.arith}
-use borrow.{Author.Needs.needs}
-use Rattle.loops.proofs.{Laws.Kept.Keeping, Laws.Kept.keeping-done, Laws.Kept.keeping-skip, Laws.Kept.keeping-start, Laws.Kept.keeping-take}
+use Rattle.model.proofs.Logic.{_-_, _∙_, arith, needs, sym, ⊎-elim}
+use Rattle.loops.proofs.{Laws.Keeper.Keeping, Laws.Keeper.keeping-done, Laws.Keeper.keeping-skip, Laws.Keeper.keeping-start, Laws.Keeper.keeping-take}
 use Rattle.edits.specs.{Kept.keeping}
 use Rattle.model.specs.{Records.blankDeclaration}
 use Rattle.edits.proofs.{kept_declarations.Statement.statement}
@@ -26,21 +23,10 @@ loop-again c =
     (c .if1 .came)
 
 pub kept-declarations-spec : {M : Type 1} → statement M
-kept-declarations-spec =
-    tie.close
-    (tie.spec
-    Inv-loop
-    μ-loop
-    (λ c κs. search needs)  -- at-most-requires
-    (λ c κs. search needs)  -- blank-declaration-requires
+kept-declarations-spec = tie.close (tie.spec Inv-loop μ-loop
+    (λ c κs. search needs) (λ c κs. search needs)  -- at-most-requires, blank-declaration-requires
     (λ c. keeping-start (omega arith) (c .before .at-most .ensures) (c .blank-declaration .ensures))  -- loop-holds
-    (λ c. omega arith)  -- mul-d
-    (λ c. omega arith)  -- array-copy-out-d
-    (λ c κs. search needs)  -- keeps-requires
-    (λ c. omega arith)  -- mul-kept
-    (λ c. omega arith)  -- array-set-from-kept
-    (λ c. omega arith)  -- add-n
-    (λ c. omega arith)  -- add-i
-    (λ c. omega arith)  -- loop-less
+    (λ c. omega arith) (λ c. omega arith) (λ c κs. search needs) (λ c. omega arith)  -- mul-d, array-copy-out-d, keeps-requires, mul-kept
+    (λ c. omega arith) (λ c. omega arith) (λ c. omega arith) (λ c. omega arith)  -- array-set-from-kept, add-n, add-i, loop-less
     loop-again
     (λ c. keeping-done (c .before .loop .inv) (λ ds n. record { declarations = ds; count = n }) (omega arith)))  -- returns

@@ -1,9 +1,6 @@
 -- `edits::live_links` meets its contract. The array holds the live links seen so far, then blanks, and what is left to scan gives the rest.
-use mathlib.Core.{Logic.⊎-elim}
-use Prim.Native.{Nat._-_}
-use native.Mathlib.{Omega.arith}
-use borrow.{Author.Needs.needs}
-use Rattle.loops.proofs.{Laws.Kept.Keeping, Laws.Kept.keeping-done, Laws.Kept.keeping-skip, Laws.Kept.keeping-start, Laws.Kept.keeping-take}
+use Rattle.model.proofs.Logic.{_-_, arith, needs, ⊎-elim}
+use Rattle.loops.proofs.{Laws.Keeper.Keeping, Laws.Keeper.keeping-done, Laws.Keeper.keeping-skip, Laws.Keeper.keeping-start, Laws.Keeper.keeping-take}
 use Rattle.model.specs.{Records.blankLink}
 use Rattle.edits.proofs.{live_links.Statement.statement}
 use Rattle.edits.proofs.live_links.Tie as tie
@@ -24,20 +21,10 @@ loop-again c =
     (c .if1 .came)
 
 pub live-links-spec : {M : Type 1} → statement M
-live-links-spec =
-    tie.close
-    (tie.spec
-    Inv-loop
-    μ-loop
-    (λ c κs. search needs)  -- at-most-requires
-    (λ c κs. search needs)  -- blank-link-requires
+live-links-spec = tie.close (tie.spec Inv-loop μ-loop
+    (λ c κs. search needs) (λ c κs. search needs)  -- at-most-requires, blank-link-requires
     (λ c. keeping-start (omega arith) (c .before .at-most .ensures) (c .blank-link .ensures))  -- loop-holds
-    (λ c. omega arith)  -- mul-l
-    (λ c. omega arith)  -- array-copy-out-l
-    (λ c. omega arith)  -- mul-kept
-    (λ c. omega arith)  -- array-set-from-kept
-    (λ c. omega arith)  -- add-n
-    (λ c. omega arith)  -- add-i
-    (λ c. omega arith)  -- loop-less
+    (λ c. omega arith) (λ c. omega arith) (λ c. omega arith) (λ c. omega arith) (λ c. omega arith)  -- mul-l, array-copy-out-l, mul-kept, array-set-from-kept, add-n
+    (λ c. omega arith) (λ c. omega arith)  -- add-i, loop-less
     loop-again
     (λ c. keeping-done (c .before .loop .inv) (λ ls n. record { links = ls; count = n }) (omega arith)))  -- returns

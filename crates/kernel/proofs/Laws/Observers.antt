@@ -1,7 +1,5 @@
 -- What an observer answers, of a kernel that is not sound and of one that is.
-use mathlib.Core.{Bool.Bool, Bool.cond, Bool.false, Bool.not, Bool.true, Option.Option, Option.none, Option.some, Path._∙_, Path._≡_, Path.ap, Path.sym}
-use Prim.Native.{Nat.ℕ}
-use borrow.{Author.Tests.not-false, Author.Tests.not-true}
+use Rattle.model.proofs.Logic.{Bool, Option, _∙_, _≡_, ap, cond, false, none, not, not-false, not-true, some, sym, true, ℕ}
 use Rattle.kernel.specs.{Fields.ask, Fields.isSound, Fields.layoutOf, Outcomes.entryOf, declared.Kernel.Kernel, declared.component.Entry.Entry}
 use Rattle.model.specs.{Layouts.tablesOf, Records.blankNode, Tables.Tables, Tables.nodeAt, Tables.present, declared.records.Node.Node}
 use Rattle.layouts.proofs.{Laws.Rows.asked-map, Laws.Sound.SoundKernel, Laws.Sound.ask-sound}

@@ -1,8 +1,5 @@
 -- What a method hands back, from what its kernel's layout is commanded and answers.
-use mathlib.Core.{Bool.not, Bool.Bool, Bool.false, Bool.true, List.List, List._++_, List._∷_, Option.none, Option.some, Path._∙_, Path._≡_, Path.ap, Path.refl, Path.sym}
-use Prim.Native.{Nat._<_, Nat.ℕ}
-use lib.{ListN.getD, ListN.set}
-use borrow.{Author.Tests.not-false, Author.Tests.not-true}
+use Rattle.model.proofs.Logic.{Bool, List, _++_, _<_, _∙_, _∷_, _≡_, ap, false, getD, none, not, not-false, not-true, refl, set, some, sym, true, ℕ}
 use Rattle.kernel.specs.{Fields.isSound, Fields.kernelOf, Fields.layoutOf, Outcomes.answerOf, Outcomes.command, Outcomes.compactionOutcome, Outcomes.insertOutcome, Outcomes.outcome, declared.Kernel.Kernel, declared.Outcome.Outcome}
 use Rattle.model.specs.{Answers.answer, Answers.removedCount, Commands.Command, Commands.report, Commands.result, Commands.tests, Insertion.insertTests, Interface.unknown, Layouts.Sized, Layouts.layOut, Layouts.tablesOf, Records.blankNode, Refusals.Reply, Refusals.Tests, Refusals.accepted, Refusals.first, Rows.changedNode, Tables.Tables, Tables.nodeAt, Tables.present, Tables.withNode, declared.Answer.Answer, declared.Error.Error, declared.InsertAnswer.InsertAnswer, declared.Parent.Parent, declared.PortList.PortList, declared.records.Node.Node, declared.transitions.Transition.Transition}
 use Rattle.layouts.proofs.{Laws.Nodes.node-changed, Laws.Rows.Accepted, Laws.Rows.accepted-by, Laws.Rows.done-row, Laws.Rows.done-sound, Laws.Rows.done-whole, Laws.Rows.refused-by, Laws.Rows.refused-command, Laws.Rows.refused-whole, Laws.Sound.SoundKernel, Laws.Sound.node-count-is, Laws.Sound.present-below}

@@ -1,6 +1,5 @@
 -- Rows of tests that a method asks in other words than its command's row.
-use mathlib.Core.{Bool.true, List._++_, Path._≡_}
-use Prim.Native.{Nat.ℕ}
+use Rattle.model.proofs.Logic.{_++_, _≡_, true, ℕ}
 use Rattle.kernel.specs.{Fields.ask, Fields.layoutOf, Outcomes.answerOf, declared.Kernel.Kernel}
 use Rattle.model.specs.{Answers.answer, Insertion.checkInsert, Insertion.insertTests, Layouts.soundKernel, Layouts.tablesOf, Lifecycle.beginCleanupTests, Lifecycle.checkIteration, Lifecycle.iterationTests, Lifecycle.removeTests, Lifecycle.retiredTests, Lifecycle.unloadingTests, Records.absentNode, Records.restoringNode, Refusals.Reply, Soundness.safetyWf, Soundness.wf, Tables.nodeAt, UpdateNode.updateTests, declared.Error.Error, declared.Parent.Parent, declared.PortList.PortList}
 use Rattle.layouts.proofs.{Laws.Nodes.same-rest, Laws.Rows.asked-map, Laws.Rows.rows-agree}

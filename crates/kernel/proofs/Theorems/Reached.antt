@@ -1,7 +1,5 @@
 -- Demand 3 on kernel values, from the theorems about layouts of any sizes.
-use mathlib.Core.{Bool._&&_, Bool.cond, Bool.true, List.List, List.[], List._∷_, Option.Option, Option.none, Path._∙_, Path._≡_, Path.ap, Path.refl, Path.sym}
-use Prim.Native.{Nat.ℕ}
-use native.Mathlib.{Omega.arith}
+use Rattle.model.proofs.Logic.{List, Option, [], _&&_, _∙_, _∷_, _≡_, ap, arith, cond, none, refl, sym, true, ℕ}
 use Rattle.kernel.specs.{Fields.ask, Fields.kernelOf, Fields.layoutOf, Outcomes.command, Reached.Demand3, Reached.ReachedSound, Reached.SpaceAfterCompaction, Reached.after, Reached.begunFrom, Reached.newKernel, Reached.reachedBy, declared.Kernel.Kernel}
 use Rattle.model.specs.{Commands.Command, Commands.run, Commands.step, Iteration.begins, Kernels.Commanded, Kernels.kernelFrom, Kernels.kernelLastFrom, Kernels.reached, Layouts.layOut, Observers.episodeGeneration, Refusals.Reply, Refusals.accepted, Resolution.target, Sizes.lastGeneration, Soundness.sound, Tables.Tables, Tables.nodeAt, declared.Binding.Binding, declared.Error.Error}
 use Rattle.model.proofs.{Theorems.Commands.run-sound, Theorems.Commands.step-sound, Theorems.Kernels.asked-of, Theorems.Kernels.commanded-of, Theorems.Kernels.kernel-iteration-rule, Theorems.Kernels.reached-is, Theorems.Kernels.reached-sound, Theorems.Kernels.reached-undamaged, Theorems.Space.capacity-known, Theorems.Space.space-after-compaction}

@@ -1,8 +1,5 @@
 -- The tables laid out again, one or two of them anew, the rest as it was.
-use mathlib.Core.{Bool.Bool, Bool.true, List.List, List.[], List._++_, List._∷_, List.map, Path._∙_, Path._≡_, Path.ap, Path.sym}
-use Prim.Native.{Nat._+_, Nat._-_, Nat._<_, Nat._≤_, Nat.ℕ}
-use native.Mathlib.{Omega.arith}
-use lib.{ListN.drop, ListN.length, ListN.length-append, ListN.length-drop, ListN.length-map, ListN.length-set, ListN.replicate, ListN.set, ListN.take}
+use Rattle.model.proofs.Logic.{Bool, List, [], _++_, _+_, _-_, _<_, _∙_, _∷_, _≡_, _≤_, ap, arith, drop, length, length-append, length-drop, length-map, length-set, map, replicate, set, sym, take, true, ℕ}
 use Rattle.model.specs.{Layouts.Layout, Layouts.layOut, Layouts.tablesOf, Lists.keep, Lists.padded, Records.blankDeclaration, Records.blankLink, Records.blankNode, Records.isBlankLink, Sizes.Sizes, Tables.Tables, Tables.present, Tables.withDeclarations, Tables.withLinks, declared.records.Declaration.Declaration, declared.records.Link.Link, declared.records.Node.Node}
 use Rattle.layouts.proofs.{Laws.Sound.SoundKernel, Laws.Sound.declaration-count-is, Laws.Sound.declarations-laid, Laws.Sound.laid, Laws.Sound.link-count-is, Laws.Sound.links-laid, Laws.Sound.node-count-is, Laws.Sound.nodes-laid}
 use Rattle.model.proofs.{Laws.Arrays.blank-rest, Laws.Arrays.set-padded, Laws.Arrays.snoc-padded, Laws.Arrays.take-padded, Laws.Blanks.blank-link, Laws.Lists.length-keep, Laws.Nodes.present-lt}

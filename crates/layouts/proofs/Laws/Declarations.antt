@@ -1,9 +1,5 @@
 -- Declarations of a sound kernel: what scans of its arrays find, and one list or record behind them.
-use mathlib.Core.{Bool.Bool, Bool._&&_, Bool._||_, Bool.cond, Bool.false, Bool.not, Bool.true, List.List, List.[], List._++_, List._∷_, List.append-assoc, List.map, Path._∙_, Path._≡_, Path.ap, Path.refl, Path.sym}
-use Prim.Native.{Nat._+_, Nat._<_, Nat._≤_, Nat.ℕ}
-use native.Mathlib.{Omega.arith}
-use lib.{ListN.length, ListN.length-map, ListN.set, ListN.take, Seq.length-take-le}
-use borrow.{Author.Tests.leb-false, Author.Tests.ltb-false}
+use Rattle.model.proofs.Logic.{Bool, List, [], _&&_, _++_, _+_, _<_, _||_, _∙_, _∷_, _≡_, _≤_, ap, append-assoc, arith, cond, false, leb-false, length, length-map, length-take-le, ltb-false, map, not, refl, set, sym, take, true, ℕ}
 use Rattle.model.specs.{Insertion.clashes, Insertion.insertTests, Insertion.inserted, Insertion.parentPresent, Interface.configureTests, Interface.dependenciesConfigured, Interface.distinct, Interface.listed, Interface.own, Interface.provisionDeclared, Interface.taken, Interface.takenBy, Interface.tooLong, Layouts.Layout, Layouts.layOut, Layouts.tablesOf, Lists.any, Lists.keep, Lists.padded, Records.blankDeclaration, Records.dependency, Records.newNode, Records.provision, Resolution.isDependencyOf, Sizes.Sizes, Sizes.listLimit, Soundness.isDeclaration, Tables.Tables, Tables.present, Tables.withDeclarations, declared.Parent.Parent, declared.Port.Port, declared.PortList.PortList, declared.records.Declaration.Declaration, declared.records.Node.Node}
 use Rattle.layouts.proofs.{Laws.Anew.HoldsDeclarations, Laws.Anew.declarations-anew, Laws.Anew.declarations-held, Laws.Anew.declarationsTo, Laws.Anew.holds-more, Laws.Anew.holds-one, Laws.Anew.holds-padded, Laws.Anew.kept-fewer, Laws.Anew.laid-as, Laws.Anew.links-held, Laws.Anew.nodesTo, Laws.Sound.SoundKernel, Laws.Sound.declaration-count-is, Laws.Sound.node-count-is, Laws.Sound.nodes-flagged, Laws.Sound.nodes-laid}
 use Rattle.loops.specs.{Columns.flag}

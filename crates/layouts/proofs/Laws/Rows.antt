@@ -1,7 +1,5 @@
 -- What follows from an answer: of a row of tests asked of a kernel, and of the commands and checks whose rows start with it.
-use mathlib.Core.{Bool.Bool, Bool.cond, Bool.false, Bool.true, List.[], List._++_, List.append-nil, Logic._⊎_, Logic.inl, Logic.inr, Option.Option, Option.none, Option.some, Path._∙_, Path._≡_, Path.ap, Path.refl, Path.sym}
-use Prim.Native.{Nat.ℕ}
-use native.Mathlib.{Omega.arith}
+use Rattle.model.proofs.Logic.{Bool, Option, [], _++_, _∙_, _≡_, _⊎_, ap, append-nil, arith, cond, false, inl, inr, none, refl, some, sym, true, ℕ}
 use Rattle.model.specs.{Answers.answer, Answers.checked, Commands.Command, Commands.report, Commands.result, Commands.tests, Kernels.asked, Kernels.commanded, Layouts.Layout, Layouts.Sized, Layouts.layOut, Layouts.soundKernel, Layouts.tablesOf, Refusals.Reply, Refusals.Tests, Refusals.first, Refusals.orElse, Sizes.Sizes, Tables.Tables, declared.Answer.Answer, declared.Error.Error}
 use Rattle.layouts.proofs.{Laws.Sound.SoundKernel, Laws.Sound.ask-sound}
 use Rattle.layouts.specs.{Rows.rowAnswer}

@@ -1,9 +1,5 @@
 -- A sound kernel as one value, and what its arrays and counts hold. Every law of a sound kernel takes it.
-use mathlib.Core.{Bool.Bool, Bool.false, Bool.not, Bool.true, List.map, Path._∙_, Path._≡_, Path.ap, Path.sym}
-use Prim.Native.{Nat._<_, Nat._≤_, Nat.ℕ}
-use native.Mathlib.{Omega.arith}
-use lib.{ListN.List·getD-eq-default, ListN.getD, ListN.length, ListN.take}
-use borrow.{Author.Tests.not-false}
+use Rattle.model.proofs.Logic.{Bool, List·getD-eq-default, _<_, _∙_, _≡_, _≤_, ap, arith, false, getD, length, map, not, not-false, sym, take, true, ℕ}
 use Rattle.model.specs.{Kernels.asked, Layouts.Layout, Layouts.Sized, Layouts.layOut, Layouts.soundKernel, Layouts.tablesOf, Lists.padded, Lists.places, Records.blankDeclaration, Records.blankLink, Records.blankNode, Records.isBlankNode, Sizes.Sizes, Tables.Tables, Tables.nodeAt, Tables.present, declared.records.Node.Node}
 use Rattle.loops.proofs.{Laws.Flags.flag-nodes}
 use Rattle.loops.specs.{Columns.flag}

@@ -1,9 +1,5 @@
 -- The target of a component of a sound kernel, as a scan of its arrays finds it.
-use mathlib.Core.{Bool.Bool, Bool._||_, Bool.cond, Bool.false, Bool.not, Bool.or-true, Bool.true, List.List, List._++_, List.map, Logic._⊎_, Logic.inl, Logic.inr, Option.Option, Option.none, Option.some, Path._∙_, Path._≡_, Path.ap, Path.refl, Path.sym}
-use Prim.Native.{Nat._+_, Nat._-_, Nat._<_, Nat._≤_, Nat.ℕ}
-use native.Mathlib.{Omega.arith}
-use lib.{Dec.ltb, ListN.getD, ListN.length, ListN.length-map, ListN.set, ListN.take}
-use borrow.{Author.Tests.le-ltb, Author.Tests.lt-ltb}
+use Rattle.model.proofs.Logic.{Bool, List, Option, _++_, _+_, _-_, _<_, _||_, _∙_, _≡_, _≤_, _⊎_, ap, arith, cond, false, getD, inl, inr, le-ltb, length, length-map, lt-ltb, ltb, map, none, not, or-true, refl, set, some, sym, take, true, ℕ}
 use Rattle.model.specs.{Kernels.asked, Layouts.Layout, Layouts.Sized, Layouts.layOut, Layouts.soundKernel, Layouts.tablesOf, Lifecycle.begun, Lifecycle.begunNode, Lifecycle.bindings, Lists.isNone, Lists.keep, Lists.padded, Records.blankBinding, Records.blankLink, Records.blankNode, Records.isProviding, Records.liveLink, Records.portOf, Resolution.bindPorts, Resolution.dependencyPorts, Resolution.isDependencyOf, Resolution.resolve, Resolution.target, Sizes.Sizes, Tables.nodeAt, Tables.present, declared.Binding.Binding, declared.records.Link.Link, declared.records.Node.Node}
 use Rattle.layouts.proofs.{Laws.Anew.Holds, Laws.Anew.holds-more, Laws.Anew.links-held, Laws.Anew.linksTo, Laws.Anew.nodesTo, Laws.Nodes.node-and-links, Laws.Sound.SoundKernel, Laws.Sound.ask-sound, Laws.Sound.declaration-count-is, Laws.Sound.laid, Laws.Sound.link-count-is, Laws.Sound.node-has, Laws.Sound.node-is, Laws.Sound.nodes-flagged}
 use Rattle.loops.specs.{Columns.flag}

@@ -11,18 +11,7 @@ abbrev μ-loop : tie.MeasureT-loop
 μ-loop n ports list₀ i₀ list i = 32 - i
 
 pub listed-spec : {M : Type 1} → statement M
-listed-spec =
-    tie.close
-    (tie.spec
-    Inv-loop
-    μ-loop
-    (λ c κs. search needs)  -- no-ports-requires
-    (λ c. search needs)  -- loop-holds
-    (λ c. search needs)  -- mul-list
-    (λ c. search needs)  -- array-copy-out-list
-    (λ c. search needs)  -- mul-t12
-    (λ c. search needs)  -- element-set-from-list
-    (λ c. search needs)  -- add-i
-    (λ c. search needs)  -- loop-less
-    (λ c. search needs)  -- loop-again
+listed-spec = tie.close (tie.spec Inv-loop μ-loop
+    (λ c κs. search needs) (λ c. search needs) (λ c. search needs) (λ c. search needs)  -- no-ports-requires, loop-holds, mul-list, array-copy-out-list
+    (λ c. search needs) (λ c. search needs) (λ c. search needs) (λ c. search needs) (λ c. search needs)  -- mul-t12, element-set-from-list, add-i, loop-less, loop-again
     (λ c. search needs))  -- returns

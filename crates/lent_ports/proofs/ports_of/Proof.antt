@@ -11,17 +11,7 @@ abbrev μ-loop : tie.MeasureT-loop
 μ-loop realm ports₀ i₀ ports i = 40 - i
 
 pub ports-of-spec : {M : Type 1} → statement M
-ports-of-spec =
-    tie.close
-    (tie.spec
-    Inv-loop
-    μ-loop
-    (λ c κs. search needs)  -- blank-port-requires
-    (λ c. search needs)  -- loop-holds
-    (λ c κs. search needs)  -- port-of-requires
-    (λ c. search needs)  -- mul-ports
-    (λ c. search needs)  -- array-set-from-ports
-    (λ c. search needs)  -- add-i
-    (λ c. search needs)  -- loop-less
-    (λ c. search needs)  -- loop-again
+ports-of-spec = tie.close (tie.spec Inv-loop μ-loop
+    (λ c κs. search needs) (λ c. search needs) (λ c κs. search needs) (λ c. search needs)  -- blank-port-requires, loop-holds, port-of-requires, mul-ports
+    (λ c. search needs) (λ c. search needs) (λ c. search needs) (λ c. search needs)  -- array-set-from-ports, add-i, loop-less, loop-again
     (λ c. search needs))  -- returns

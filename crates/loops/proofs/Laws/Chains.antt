@@ -1,9 +1,5 @@
 -- Chains: how a loop makes them, and a walk of one finds what a scan of every entry finds, for a test that only entries of its bucket pass.
-use mathlib.Core.{Bool.Bool, Bool.Bool·beq, Bool._&&_, Bool._||_, Bool.cond, Bool.false, Bool.not, Bool.or-false, Bool.true, List.List, List.[], List._++_, List._∷_, Logic._⊎_, Logic.inl, Logic.inr, Path._∙_, Path._≡_, Path.ap, Path.refl, Path.sym}
-use Prim.Native.{Nat._+_, Nat._-_, Nat._<_, Nat._≤_, Nat.suc, Nat.zero, Nat.ℕ}
-use native.Mathlib.{Decide.decLt, Numerals.add-one, Omega.arith}
-use lib.{Dec.eqb, ListN.getD, ListN.getD-replicate, ListN.length, ListN.length-set, ListN.replicate, ListN.set, ListN.take, Seq.getD-set-other, Seq.getD-set-same, Seq.take-suc}
-use borrow.{Author.Tests.eq-eqb, Author.Tests.eqb-false, Author.Tests.eqb-true, Author.Tests.ne-eqb}
+use Rattle.model.proofs.Logic.{Bool, Bool·beq, List, [], _&&_, _++_, _+_, _-_, _<_, _||_, _∙_, _∷_, _≡_, _≤_, _⊎_, add-one, ap, arith, cond, decLt, eq-eqb, eqb, eqb-false, eqb-true, false, getD, getD-replicate, getD-set-other, getD-set-same, inl, inr, length, length-set, ne-eqb, not, or-false, refl, replicate, set, suc, sym, take, take-suc, true, zero, ℕ}
 use Rattle.model.specs.{Lists._⇒_, Lists.all, Lists.any, Lists.conj, Records.declaredPort, Records.ownerIn, Records.samePort, Soundness.isDeclaration, Soundness.rivalTests, Soundness.sameOwner, declared.Port.Port, declared.records.Declaration.Declaration}
 use Rattle.model.proofs.{Laws.Booleans.Each, Laws.Booleans.and-i, Laws.Booleans.and-l, Laws.Booleans.and-r, Laws.Booleans.cases, Laws.Booleans.clash, Laws.Booleans.each, Laws.Booleans.imp-i, Laws.Booleans.not-f, Laws.Booleans.not-t, Laws.Booleans.or-f-l, Laws.Lists.in-all}
 use Rattle.loops.proofs.{Laws.Columns.length-rows, Laws.Columns.row-at}

@@ -1,8 +1,5 @@
 -- A loop that stores what it finds at the first free place of an array of blanks: the start, an entry stored, an entry left out, the end.
-use mathlib.Core.{Bool.Bool, Bool.false, Bool.true, List.List, List.[], List._++_, List._∷_, List.append-nil, Path._∙_, Path._≡_, Path.ap, Path.refl, Path.sym}
-use Prim.Native.{Nat._+_, Nat._-_, Nat._<_, Nat._≤_, Nat.ℕ}
-use native.Mathlib.{Numerals.add-one, Omega.arith}
-use lib.{ListN.drop, ListN.getD, ListN.length, ListN.length-append, ListN.replicate, ListN.set, Seq.append-snoc, Seq.slice}
+use Rattle.model.proofs.Logic.{Bool, List, [], _++_, _+_, _-_, _<_, _∙_, _∷_, _≡_, _≤_, add-one, ap, append-nil, append-snoc, arith, drop, false, getD, length, length-append, refl, replicate, set, slice, sym, true, ℕ}
 use Rattle.model.proofs.{Laws.Arrays.snoc-padded}
 use Rattle.model.specs.{Lists.keep, Lists.padded, Lists.places}
 use Rattle.loops.proofs.{Laws.Scan.part-done, Laws.Scan.part-next, Laws.Scan.rest-done, Laws.Scan.rest-next}

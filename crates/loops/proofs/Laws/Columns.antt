@@ -1,8 +1,5 @@
 -- Columns: the row at a place, and what is left of the rows.
-use mathlib.Core.{List._∷_, Path._∙_, Path._≡_, Path.ap, Path.refl}
-use Prim.Native.{Nat._+_, Nat._<_, Nat._≤_, Nat.suc, Nat.zero, Nat.ℕ}
-use native.Mathlib.{Nat.add-zero, Nat.zero-add, Omega.arith}
-use lib.{ListN.getD, ListN.length, ListN.take, Seq.slice}
+use Rattle.model.proofs.Logic.{_+_, _<_, _∙_, _∷_, _≡_, _≤_, add-zero, ap, arith, getD, length, refl, slice, suc, take, zero, zero-add, ℕ}
 use Rattle.loops.proofs.{Laws.Scan.part-next, Laws.Scan.take-most}
 use Rattle.loops.specs.{Columns.rowsFrom, Limits.AtMost}
 

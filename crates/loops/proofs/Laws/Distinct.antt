@@ -1,8 +1,5 @@
 -- A scan of a list for a port that comes again or passes a test: what is left to scan answers as the whole does.
-use mathlib.Core.{Bool.Bool, Bool._&&_, Bool.and-false, Bool.and-true, Bool.false, Bool.not, Bool.true, List.List, List.[], List._∷_, Path._∙_, Path._≡_, Path.ap, Path.refl, Path.sym}
-use Prim.Native.{Nat._+_, Nat._<_, Nat._≤_, Nat.ℕ}
-use native.Mathlib.{Omega.arith}
-use lib.{ListN.getD, ListN.length, ListN.take, Seq.slice}
+use Rattle.model.proofs.Logic.{Bool, List, [], _&&_, _+_, _<_, _∙_, _∷_, _≡_, _≤_, and-false, and-true, ap, arith, false, getD, length, not, refl, slice, sym, take, true, ℕ}
 use Rattle.model.specs.{Interface.distinct, Lists.any, Records.blankPort, Records.samePort, declared.Port.Port}
 use Rattle.loops.proofs.{Laws.Scan.part-done, Laws.Scan.part-next, Laws.Scan.take-most, Laws.Scanning.Seeking}
 use Rattle.loops.specs.{Limits.AtMost}

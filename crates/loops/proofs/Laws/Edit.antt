@@ -1,8 +1,5 @@
 -- An array that a loop writes: a function of each entry in its own place, and a function of each entry of a list behind what stands there.
-use mathlib.Core.{List.List, List.[], List._++_, List._∷_, List.append-assoc, List.map, List.map-append, Path._∙_, Path._≡_, Path.ap, Path.sym}
-use Prim.Native.{Nat._+_, Nat._<_, Nat._≤_, Nat.ℕ}
-use native.Mathlib.{Numerals.add-one, Omega.arith}
-use lib.{ListN.drop, ListN.getD, ListN.length, ListN.length-append, ListN.length-map, ListN.set, ListN.take, Seq.append-snoc, Seq.getD-at, Seq.length-take-le, Seq.set-at, Seq.take-suc}
+use Rattle.model.proofs.Logic.{List, [], _++_, _+_, _<_, _∙_, _∷_, _≡_, _≤_, add-one, ap, append-assoc, append-snoc, arith, drop, getD, getD-at, length, length-append, length-map, length-take-le, map, map-append, set, set-at, sym, take, take-suc, ℕ}
 use Rattle.model.proofs.{Laws.Arrays.snoc-padded}
 use Rattle.model.specs.{Lists.padded}
 use Rattle.loops.proofs.{Laws.Scan.drop-most, Laws.Scan.rest-next, Laws.Scan.take-most}

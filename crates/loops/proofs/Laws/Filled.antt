@@ -1,8 +1,5 @@
 -- An array filled from its start with a field of each entry of a list: one more entry, what stands at a place, the rows of filled columns.
-use mathlib.Core.{Bool.Bool, List.List, List.[], List._++_, List._∷_, List.append-nil, List.map, List.map-append, Path._∙_, Path._≡_, Path.ap, Path.refl, Path.sym}
-use Prim.Native.{Nat._+_, Nat._-_, Nat._<_, Nat._≤_, Nat.suc, Nat.zero, Nat.ℕ}
-use native.Mathlib.{Numerals.add-one, Omega.arith}
-use lib.{ListN.List·getD-map, ListN.getD, ListN.length, ListN.length-map, ListN.length-set, ListN.replicate, ListN.set, ListN.take, Seq.ext-getD, Seq.getD-take, Seq.length-take-le, Seq.take-all, Seq.take-suc, Seq.take-suc-set}
+use Rattle.model.proofs.Logic.{Bool, List, List·getD-map, [], _++_, _+_, _-_, _<_, _∙_, _∷_, _≡_, _≤_, add-one, ap, append-nil, arith, ext-getD, getD, getD-take, length, length-map, length-set, length-take-le, map, map-append, refl, replicate, set, suc, sym, take, take-all, take-suc, take-suc-set, zero, ℕ}
 use Rattle.model.specs.{Lists.padded, Records.blankDeclaration, Records.declaredPort, Records.ownerIn, declared.records.Declaration.Declaration}
 use Rattle.model.proofs.{Laws.Arrays.snoc-padded, Laws.Lists.getD-any}
 use Rattle.loops.proofs.{Laws.Columns.length-rows, Laws.Columns.row-at, Laws.Scan.take-most}

@@ -1,9 +1,5 @@
 -- A column of what a test says of each node is that test of an identity's node.
-use mathlib.Core.{Bool.Bool, Bool._&&_, Bool.false, Bool.true, List.List, List.map, Path._∙_, Path._≡_, Path.ap, Path.sym}
-use Prim.Native.{Nat._<_, Nat._≤_, Nat.ℕ}
-use native.Mathlib.{Decide.decLt, Omega.arith}
-use lib.{Dec.ltb, ListN.List·getD-eq-default, ListN.List·getD-map, ListN.drop, ListN.getD, ListN.length, ListN.take}
-use borrow.{Author.Tests.le-ltb, Author.Tests.lt-ltb}
+use Rattle.model.proofs.Logic.{Bool, List, List·getD-eq-default, List·getD-map, _&&_, _<_, _∙_, _≡_, _≤_, ap, arith, decLt, drop, false, getD, le-ltb, length, lt-ltb, ltb, map, sym, take, true, ℕ}
 use Rattle.model.specs.{Lists.all, Records.blankNode, Records.isBlankNode, Tables.nodeAt, declared.records.Node.Node}
 use Rattle.model.proofs.{Laws.Arrays.getD-padded, Laws.Arrays.whole-array, Laws.Blanks.blank-node}
 use Rattle.loops.specs.{Columns.flag}

@@ -1,8 +1,5 @@
 -- The order of links by one pass that marks the providers met: what is left to test, a step on, a hit and the end.
-use mathlib.Core.{Bool.Bool, Bool.Bool·not-not, Bool._&&_, Bool._||_, Bool.and-comm, Bool.and-false, Bool.and-true, Bool.cond, Bool.false, Bool.not, Bool.true, List.List, List.[], List._∷_, Logic._⊎_, Logic.inl, Logic.inr, Path._∙_, Path._≡_, Path.refl, Path.sym}
-use Prim.Native.{Nat._<_, Nat.suc, Nat.zero, Nat.ℕ}
-use lib.{Dec.eqb, Dec.ltb, ListN.getD, ListN.length, ListN.replicate, ListN.set, Seq.getD-set-other, Seq.getD-set-same}
-use borrow.{Author.Tests.eqb-false, Author.Tests.eqb-true, Author.Tests.ltb-true, Author.Tests.ne-eqb}
+use Rattle.model.proofs.Logic.{Bool, Bool·not-not, List, [], _&&_, _<_, _||_, _∙_, _∷_, _≡_, _⊎_, and-comm, and-false, and-true, cond, eqb, eqb-false, eqb-true, false, getD, getD-set-other, getD-set-same, inl, inr, length, ltb, ltb-true, ne-eqb, not, refl, replicate, set, suc, sym, true, zero, ℕ}
 use Rattle.model.specs.{Lists._⇒_, Lists.all, Lists.any, Lists.conj, Lists.onward, Records.consumerIn, Records.declaredPort, Records.ownerIn, Records.portIn, Records.providerIn, Soundness.apart, Soundness.declares, Soundness.isCovered, Soundness.isDeclaration, Soundness.linkOk, Soundness.linkTests, Soundness.linksTo, Soundness.ordered, declared.records.Declaration.Declaration, declared.records.Link.Link}
 use Rattle.model.proofs.{Laws.Booleans.Each, Laws.Booleans.and-l, Laws.Booleans.and-r, Laws.Booleans.cases, Laws.Booleans.each, Laws.Booleans.imp-e, Laws.Lists.in-all}
 use Rattle.loops.proofs.{Laws.Chains.is-dependency}

@@ -1,9 +1,5 @@
 -- A node below a count, and the parent test on such nodes.
-use mathlib.Core.{Bool.Bool, Bool._&&_, Bool.false, List.List, Path._∙_, Path._≡_, Path.ap}
-use Prim.Native.{Nat._<_, Nat._≤_, Nat.ℕ}
-use native.Mathlib.{Nat.min-le-left, Omega.arith}
-use lib.{ListN.getD, ListN.length, ListN.length-take, ListN.take, Seq.getD-take}
-use borrow.{Author.Tests.le-ltb, Author.Tests.lt-ltb}
+use Rattle.model.proofs.Logic.{Bool, List, _&&_, _<_, _∙_, _≡_, _≤_, ap, arith, false, getD, getD-take, le-ltb, length, length-take, lt-ltb, min-le-left, take, ℕ}
 use Rattle.model.specs.{Records.blankNode, Soundness.parentOk, Tables.nodeAt, Tables.present, declared.Parent.Parent, declared.records.Node.Node}
 use Rattle.model.proofs.{Laws.Nodes.past-blank}
 use Rattle.loops.proofs.{Laws.Scan.take-most}

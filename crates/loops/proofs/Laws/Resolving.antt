@@ -1,8 +1,5 @@
 -- A scan that resolves a port, and one that binds a component's ports: what is left of the rows answers as all the rows do.
-use mathlib.Core.{Bool.Bool, Bool.false, Bool.true, List.List, List.[], List._++_, List._∷_, List.append-nil, Option.Option, Option.none, Option.some, Path._≡_, Path.ap, Path.refl, Path.sym}
-use Prim.Native.{Nat._+_, Nat._<_, Nat._≤_, Nat.ℕ}
-use native.Mathlib.{Omega.arith}
-use lib.{ListN.take, Seq.append-snoc, Seq.slice}
+use Rattle.model.proofs.Logic.{Bool, List, Option, [], _++_, _+_, _<_, _∷_, _≡_, _≤_, ap, append-nil, append-snoc, arith, false, none, refl, slice, some, sym, take, true, ℕ}
 use Rattle.model.specs.{Answers.resolution, Lists.keep, Records.bindingOf, Resolution.bindPorts, Resolution.dependencyPorts, Resolution.isDependencyOf, Resolution.joined, Resolution.offers, Resolution.resolve, declared.Binding.Binding, declared.Port.Port, declared.Resolution.Resolution, declared.records.Declaration.Declaration}
 use Rattle.loops.proofs.{Laws.Columns.rows-most, Laws.Columns.rows-next, Laws.Scan.part-done}
 use Rattle.loops.specs.{Columns.rowsFrom, Limits.AtMost}

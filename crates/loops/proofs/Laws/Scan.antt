@@ -1,8 +1,5 @@
 -- What is left of a list: one more entry, and none; a count that stops at a size.
-use mathlib.Core.{List.List, List.[], List._∷_, Path._∙_, Path._≡_, Path.sym}
-use Prim.Native.{Nat._+_, Nat._<_, Nat._≤_, Nat.ℕ}
-use native.Mathlib.{Decide.decLt, Nat.min-le-left, Numerals.add-one, Omega.arith}
-use lib.{ListN.drop, ListN.drop-of-length-le, ListN.getD, ListN.length, ListN.length-take, ListN.take, Seq.drop-cons, Seq.slice, Seq.slice-cons, Seq.take-all}
+use Rattle.model.proofs.Logic.{List, [], _+_, _<_, _∙_, _∷_, _≡_, _≤_, add-one, arith, decLt, drop, drop-cons, drop-of-length-le, getD, length, length-take, min-le-left, slice, slice-cons, sym, take, take-all, ℕ}
 use Rattle.loops.specs.{Limits.AtMost}
 
 module _ {A : Type 0} where

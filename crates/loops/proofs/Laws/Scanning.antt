@@ -1,8 +1,5 @@
 -- A loop that leaves early: what is left of a table answers w, as the whole does. The start, a step on, a hit and the end, for each kind of scan.
-use mathlib.Core.{Bool.Bool, Bool._&&_, Bool.and-assoc, Bool.and-false, Bool.and-true, Bool.false, Bool.true, List.List, Path._∙_, Path._≡_, Path.ap}
-use Prim.Native.{Nat._+_, Nat._<_, Nat._≤_, Nat.ℕ}
-use native.Mathlib.{Numerals.add-one, Omega.arith}
-use lib.{ListN.drop, ListN.getD, ListN.length, ListN.take, Seq.slice}
+use Rattle.model.proofs.Logic.{Bool, List, _&&_, _+_, _<_, _∙_, _≡_, _≤_, add-one, and-assoc, and-false, and-true, ap, arith, drop, false, getD, length, slice, take, true, ℕ}
 use Rattle.model.specs.{Lists.all, Lists.allAt, Lists.any}
 use Rattle.loops.proofs.{Laws.Columns.rows-most, Laws.Columns.rows-next, Laws.Scan.drop-most, Laws.Scan.part-done, Laws.Scan.part-next, Laws.Scan.rest-done, Laws.Scan.rest-next, Laws.Scan.take-most}
 use Rattle.loops.specs.{Columns.rowsFrom, Limits.AtMost}

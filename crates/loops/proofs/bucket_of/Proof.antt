@@ -1,5 +1,5 @@
 -- `loops::bucket_of` meets its contract.
-use borrow.{Author.Needs.needs}
+use Rattle.model.proofs.Logic.{needs}
 use Rattle.loops.specs.{Chains.bucketOf}
 use Rattle.loops.proofs.{bucket_of.Statement.statement}
 use Rattle.loops.proofs.bucket_of.Tie as tie
@@ -9,12 +9,6 @@ unfolding bucketOf
 returns c = search needs
 
 pub bucket-of-spec : {M : Type 1} → statement M
-bucket-of-spec =
-    tie.close
-    (tie.spec
-    (λ c. search needs)  -- mul-port
-    (λ c. search needs)  -- add-port
-    (λ c. search needs)  -- mul-result
-    (λ c. search needs)  -- add-result
-    (λ c. search needs)  -- mul-result-2
+bucket-of-spec = tie.close (tie.spec
+    (λ c. search needs) (λ c. search needs) (λ c. search needs) (λ c. search needs) (λ c. search needs)  -- mul-port, add-port, mul-result, add-result, mul-result-2
     returns)

@@ -1,9 +1,5 @@
 -- `loops::distinct_ports` meets its contract. In each loop, what is left to scan answers as the whole does.
-use mathlib.Core.{Bool.true, Path._∙_, Path._≡_, Path.refl, Path.sym}
-use Prim.Native.{Nat._+_, Nat._-_}
-use native.Mathlib.{Omega.arith}
-use lib.{ListN.length, ListN.length-map, ListN.take, Seq.slice}
-use borrow.{Author.Needs.needs}
+use Rattle.model.proofs.Logic.{_+_, _-_, _∙_, _≡_, arith, length, length-map, needs, refl, slice, sym, take, true}
 use Rattle.model.specs.{Interface.distinct, Lists.any, Records.blankPort, Records.samePort}
 use Rattle.loops.proofs.{Laws.Distinct.Apart, Laws.Distinct.again-start, Laws.Distinct.apart-end, Laws.Distinct.apart-on, Laws.Distinct.apart-start, Laws.Distinct.apart-twice, Laws.Distinct.never, Laws.Distinct.never-apart, Laws.Scanning.Seeking, Laws.Scanning.seek-end, Laws.Scanning.seek-hit, Laws.Scanning.seek-on, distinct_ports.Statement.statement}
 use Rattle.loops.proofs.distinct_ports.Tie as tie
@@ -36,27 +32,16 @@ returns-2 c =
     search (apart-twice, seek-hit)
 
 pub distinct-ports-spec : {M : Type 1} → statement M
-distinct-ports-spec =
-    tie.close
-    (tie.spec
-    Inv-loop
-    μ-loop
+distinct-ports-spec = tie.close (tie.spec Inv-loop μ-loop
     Inv-scan
     μ-scan
     (λ c κs. search needs)  -- at-most-requires
     scan-holds
-    (λ c. omega arith)  -- mul-p
-    (λ c. omega arith)  -- array-copy-out-p
-    (λ c. omega arith)  -- add-j
+    (λ c. omega arith) (λ c. omega arith) (λ c. omega arith)  -- mul-p, array-copy-out-p, add-j
     (λ c. (refl, again-start (c .before .before .scan .inv .1) _))  -- loop-holds
-    (λ c. omega arith)  -- mul-q
-    (λ c. omega arith)  -- array-copy-out-q
-    (λ c κs. search needs)  -- same-port-requires
-    (λ c. omega arith)  -- add-j-2
-    (λ c. omega arith)  -- loop-less
+    (λ c. omega arith) (λ c. omega arith) (λ c κs. search needs) (λ c. omega arith) (λ c. omega arith)  -- mul-q, array-copy-out-q, same-port-requires, add-j-2, loop-less
     (λ c. (search, seek-on (search) blankPort (omega arith) (cc)))  -- loop-again
-    (λ c. omega arith)  -- add-i
-    (λ c. omega arith)  -- scan-less
+    (λ c. omega arith) (λ c. omega arith)  -- add-i, scan-less
     scan-again
     (λ c. c .before .scan .inv .0 ∙ apart-end (c .before .scan .inv .1) (c .scan-test .left))  -- returns
     returns-2)

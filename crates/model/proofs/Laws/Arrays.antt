@@ -1,8 +1,5 @@
 -- A table in an array: reads, stores, and the blanks behind it.
-use mathlib.Core.{Bool.Bool, Bool.false, Bool.true, List.List, List.[], List._++_, List._∷_, List.map, Path._∙_, Path._≡_, Path.ap, Path.refl, Path.sym}
-use Prim.Native.{Nat._+_, Nat._-_, Nat._<_, Nat._≤_, Nat.suc, Nat.zero, Nat.ℕ}
-use native.Mathlib.{Decide.decLt, Omega.arith}
-use lib.{ListN.List·getD-eq-default, ListN.drop, ListN.getD, ListN.getD-replicate, ListN.length, ListN.length-append, ListN.length-drop, ListN.length-replicate, ListN.length-set, ListN.replicate, ListN.set, ListN.take, ListN.take-append-drop, Seq.append-snoc, Seq.drop-append-seam, Seq.length-take-le, Seq.set-append-left, Seq.set-append-seam, Seq.take-append-seam}
+use Rattle.model.proofs.Logic.{Bool, List, List·getD-eq-default, [], _++_, _+_, _-_, _<_, _∙_, _∷_, _≡_, _≤_, ap, append-snoc, arith, decLt, drop, drop-append-seam, false, getD, getD-replicate, length, length-append, length-drop, length-replicate, length-set, length-take-le, map, refl, replicate, set, set-append-left, set-append-seam, suc, sym, take, take-append-drop, take-append-seam, true, zero, ℕ}
 use Rattle.model.proofs.{Laws.Booleans.and-i, Laws.Booleans.and-l, Laws.Booleans.and-r}
 use Rattle.model.specs.{Lists.all, Lists.padded, Lists.places}
 

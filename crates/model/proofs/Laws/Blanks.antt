@@ -1,9 +1,5 @@
 -- The blank tests pass on the blank records only, and on two records or-ed where they pass on both.
-use mathlib.Core.{Bool._&&_, Bool._||_, Bool.true, Path._≡_, Path.refl}
-use Prim.Native.{Nat.suc, Nat.zero, Nat.ℕ}
-use native.Mathlib.{Omega.arith}
-use lib.{Bits.and-le-r, Bits.bitOr, Bits.or-add-and, Dec.eqb}
-use borrow.{Author.Tests.eqb-true, Author.Tests.ne-eqb}
+use Rattle.model.proofs.Logic.{_&&_, _||_, _≡_, and-le-r, arith, bitOr, eqb, eqb-true, ne-eqb, or-add-and, refl, suc, true, zero, ℕ}
 use Rattle.model.specs.{Records.bindingIn, Records.blankBinding, Records.blankDeclaration, Records.blankDeclarationTests, Records.blankLink, Records.blankLinkTests, Records.blankNode, Records.blankNodeTests, Records.isBlankDeclaration, Records.isBlankLink, Records.isBlankNode, Records.noParent, Records.parentIn, declared.Parent.Parent, declared.records.Declaration.Declaration, declared.records.Link.Link, declared.records.Node.Node}
 use Rattle.model.proofs.{Laws.Booleans.Both, Laws.Booleans.Each, Laws.Booleans.both-and, Laws.Booleans.both-not, Laws.Booleans.each, Laws.Booleans.not-t, Laws.Phases.inactive-is, Laws.Records.binding-is, Laws.Records.declaration-is, Laws.Records.link-is, Laws.Records.node-is, Laws.Records.port-is}
 

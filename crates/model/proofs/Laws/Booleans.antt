@@ -1,5 +1,5 @@
 -- What tests say: conjunctions, negations, implications, and lists of tests by place.
-use mathlib.Core.{Bool.Bool, Bool._&&_, Bool._||_, Bool.false, Bool.not, Bool.true, Bool.true≢false, List.List, List.[], List._∷_, Logic._⊎_, Logic.inl, Logic.inr, Path._∙_, Path._≡_, Path.refl, Path.sym}
+use Rattle.model.proofs.Logic.{Bool, List, [], _&&_, _||_, _∙_, _∷_, _≡_, _⊎_, false, inl, inr, not, refl, sym, true, true≢false}
 use Rattle.model.specs.{Lists._⇒_, Lists.andEach, Lists.conj}
 
 pub and-l : (a b : Bool) → a && b ≡ true → a ≡ true

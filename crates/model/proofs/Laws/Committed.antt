@@ -1,8 +1,5 @@
 -- committed and the dependency ports after each change of the tables.
-use mathlib.Core.{Bool.Bool, Bool._&&_, Bool.and-false, Bool.cond, Bool.false, Bool.not, Bool.true, List.List, List.List·Memᴰ, List.List·Memᴰ·append-cases, List.[], List._++_, List._∷_, List.append-nil, List.map, List.map-append, Logic._⊎_, Logic.inl, Logic.inr, Path._∙_, Path._≡_, Path.ap, Path.refl, Path.sym}
-use Prim.Native.{Nat.ℕ}
-use lib.{Dec.eqb}
-use borrow.{Author.Tests.eq-eqb, Author.Tests.eqb-true, Author.Tests.ne-eqb}
+use Rattle.model.proofs.Logic.{Bool, List, List·Memᴰ, List·Memᴰ·append-cases, [], _&&_, _++_, _∙_, _∷_, _≡_, _⊎_, and-false, ap, append-nil, cond, eq-eqb, eqb, eqb-true, false, inl, inr, map, map-append, ne-eqb, not, refl, sym, true, ℕ}
 use Rattle.model.specs.{Lists.keep, Records.bindingIn, Records.consumerIn, Records.deadFor, Records.declaredPort, Records.dependency, Records.isLive, Records.liveLink, Records.ownerIn, Records.provision, Resolution.committed, Resolution.dependencyPorts, Resolution.isDependencyOf, Resolution.isLiveLinkOf, Tables.Tables, Tables.notInactive, declared.Binding.Binding, declared.Port.Port, declared.records.Declaration.Declaration, declared.records.Link.Link}
 use Rattle.model.proofs.{Laws.Booleans.and-l, Laws.Booleans.and-r, Laws.Booleans.cases, Laws.Booleans.clash, Laws.Booleans.not-t, Laws.Facts.Safe, Laws.Lists.in-map, Laws.Lists.keep-append, Laws.Lists.keep-keep, Laws.Lists.keep-none}
 

@@ -1,9 +1,5 @@
 -- Soundness as facts by membership, and that the test says just these.
-use mathlib.Core.{Bool.Bool, Bool.Bool·beq, Bool._&&_, Bool.false, Bool.not, Bool.true, List.List, List.List·Memᴰ, List.Memᴰ·cast, Logic._⊎_, Logic.inl, Logic.inr, Path._≡_, Path.refl, Path.sym}
-use Prim.Native.{Nat._<_, Nat._≤_, Nat.ℕ}
-use native.Mathlib.{Decide.decLt, Nat.zero-add, Omega.arith}
-use lib.{Dec.eqb, ListN.List·getD-eq-default, ListN.getD, ListN.length}
-use borrow.{Author.Tests.eq-eqb, Author.Tests.eqb-true, Author.Tests.le-leb, Author.Tests.leb-true, Author.Tests.lt-ltb, Author.Tests.ltb-true}
+use Rattle.model.proofs.Logic.{Bool, Bool·beq, List, List·Memᴰ, List·getD-eq-default, Memᴰ·cast, _&&_, _<_, _≡_, _≤_, _⊎_, arith, decLt, eq-eqb, eqb, eqb-true, false, getD, inl, inr, le-leb, leb-true, length, lt-ltb, ltb-true, not, refl, sym, true, zero-add, ℕ}
 use Rattle.model.specs.{Lists.all, Lists.allAt, Lists.any, Lists.conj, Records.bindingIn, Records.blankNode, Records.consistencyTests, Records.consumerIn, Records.declarationOf, Records.declaredPort, Records.dependency, Records.isConsistent, Records.isInactive, Records.isUnloading, Records.ownerIn, Records.parentIn, Records.portIn, Records.portOf, Records.providerIn, Records.provision, Records.samePort, Sizes.Sizes, Soundness.coverage, Soundness.declares, Soundness.fits, Soundness.hasOwner, Soundness.isCovered, Soundness.isDeclaration, Soundness.linkOk, Soundness.linkTests, Soundness.linksTo, Soundness.needTests, Soundness.nodeOk, Soundness.ordered, Soundness.parentOk, Soundness.rivalTests, Soundness.safetyTests, Soundness.safetyWf, Soundness.sameOwner, Soundness.sizeTests, Soundness.sound, Soundness.wf, Tables.Tables, Tables.installed, Tables.nodeAt, Tables.notInactive, Tables.present, Tables.serving, declared.Binding.Binding, declared.Port.Port, declared.records.Declaration.Declaration, declared.records.Link.Link, declared.records.Node.Node}
 use Rattle.model.proofs.{Laws.Booleans.Each, Laws.Booleans.and-i, Laws.Booleans.and-l, Laws.Booleans.and-r, Laws.Booleans.cases, Laws.Booleans.clash, Laws.Booleans.each, Laws.Booleans.f-not, Laws.Booleans.imp-e, Laws.Booleans.imp-i, Laws.Booleans.not-t, Laws.Booleans.of-each, Laws.Lists.all-in, Laws.Lists.allAt-at, Laws.Lists.any-in, Laws.Lists.at-allAt, Laws.Lists.in-all, Laws.Lists.in-any, Laws.Records.declaration-is, Laws.Records.port-is}
 

@@ -1,8 +1,5 @@
 -- What the tests on lists say, by membership and by place.
-use mathlib.Core.{Bool.Bool, Bool._||_, Bool.cond, Bool.false, Bool.true, Bool.true≢false, List.List, List.List·Memᴰ, List.List·Memᴰ·head, List.List·Memᴰ·not-nil, List.List·Memᴰ·tail, List.[], List._++_, List._∷_, List.map, Option.Option, Option.none, Option.some, Path._≡_, Path.ap, Path.refl, Path.sym}
-use Prim.Native.{Nat._+_, Nat._<_, Nat._≤_, Nat.suc, Nat.zero, Nat.ℕ}
-use native.Mathlib.{Nat.add-zero, Omega.arith}
-use lib.{ListN.getD, ListN.length}
+use Rattle.model.proofs.Logic.{Bool, List, List·Memᴰ, List·Memᴰ·head, List·Memᴰ·not-nil, List·Memᴰ·tail, Option, [], _++_, _+_, _<_, _||_, _∷_, _≡_, _≤_, add-zero, ap, arith, cond, false, getD, length, map, none, refl, some, suc, sym, true, true≢false, zero, ℕ}
 use Rattle.model.proofs.{Laws.Booleans.and-i, Laws.Booleans.and-l, Laws.Booleans.and-r, Laws.Booleans.clash, Laws.Booleans.or-f-l, Laws.Booleans.or-f-r}
 use Rattle.model.specs.{Lists.all, Lists.allAt, Lists.any, Lists.isNone, Lists.keep, Lists.onward, Points.Among, Points.At}
 

@@ -1,5 +1,5 @@
 -- A test that only what is kept can pass answers on that as on all.
-use mathlib.Core.{Bool.Bool, Bool._||_, Bool.cond, Bool.false, Bool.true, List.List, List.[], List._∷_, Path._≡_, Path.ap, Path.refl}
+use Rattle.model.proofs.Logic.{Bool, List, [], _||_, _∷_, _≡_, ap, cond, false, refl, true}
 use Rattle.model.specs.{Lists.any, Lists.keep}
 
 module _ {A : Type 0} (q : A → Bool) where

@@ -1,8 +1,5 @@
 -- The node table: an identity read, one node written anew, one node behind the others.
-use mathlib.Core.{Bool.false, Bool.true, List.List, List.List·Memᴰ, List.[], List._++_, List._∷_, Path._∙_, Path._≡_, Path.ap, Path.refl, Path.sym}
-use Prim.Native.{Nat._<_, Nat._≤_, Nat.ℕ}
-use native.Mathlib.{Decide.decLt, Decide.ℕ-discrete, Omega.arith}
-use lib.{Dec.ltb, ListN.List·getD-append, ListN.List·getD-eq-default, ListN.length, ListN.length-append, ListN.set, Seq.getD-append-seam, Seq.getD-set-other, Seq.getD-set-same}
+use Rattle.model.proofs.Logic.{List, List·Memᴰ, List·getD-append, List·getD-eq-default, [], _++_, _<_, _∙_, _∷_, _≡_, _≤_, ap, arith, decLt, false, getD-append-seam, getD-set-other, getD-set-same, length, length-append, ltb, refl, set, sym, true, ℕ, ℕ-discrete}
 use Rattle.model.specs.{Records.blankNode, Soundness.parentOk, Tables.nodeAt, Tables.present, declared.Parent.Parent, declared.records.Node.Node}
 use Rattle.model.proofs.{Laws.Booleans.and-i, Laws.Booleans.and-l, Laws.Booleans.and-r, Laws.Booleans.clash, Laws.Lists.place-in}
 

@@ -1,7 +1,5 @@
 -- The order of live links, kept by what a command does to the link table.
-use mathlib.Core.{Bool.Bool, Bool._&&_, Bool.cond, Bool.false, Bool.not, Bool.true, List.List, List.List·Memᴰ, List.List·Memᴰ·append-cases, List.List·Memᴰ·head, List.List·Memᴰ·tail, List.[], List._++_, List._∷_, List.map, Logic._⊎_, Logic.inl, Logic.inr, Path._≡_, Path.refl}
-use lib.{Dec.eqb}
-use borrow.{Author.Tests.eq-eqb, Author.Tests.eqb-true}
+use Rattle.model.proofs.Logic.{Bool, List, List·Memᴰ, List·Memᴰ·append-cases, List·Memᴰ·head, List·Memᴰ·tail, [], _&&_, _++_, _∷_, _≡_, _⊎_, cond, eq-eqb, eqb, eqb-true, false, inl, inr, map, not, refl, true}
 use Rattle.model.specs.{Lists.all, Lists.keep, Lists.onward, Records.consumerIn, Records.providerIn, Soundness.apart, Soundness.ordered, declared.records.Link.Link}
 use Rattle.model.proofs.{Laws.Booleans.and-i, Laws.Booleans.and-l, Laws.Booleans.and-r, Laws.Booleans.clash, Laws.Booleans.not-t, Laws.Lists.all-in, Laws.Lists.all-keep, Laws.Lists.in-all, Laws.Lists.in-map}
 

@@ -1,5 +1,5 @@
 -- What one test on a phase says of another.
-use mathlib.Core.{Bool.false, Bool.not, Bool.true, Path._≡_, Path.refl, Path.sym}
+use Rattle.model.proofs.Logic.{_≡_, false, not, refl, sym, true}
 use Rattle.model.specs.{Records.isActive, Records.isInactive, Records.isLoading, Records.isRunning, Records.isUnloading, declared.Phase.Phase}
 
 pub running-installed : (f : Phase) → isRunning f ≡ true → not (isInactive f) ≡ true

@@ -1,5 +1,5 @@
 -- The stored records: each is its fields, and what is stored is read back.
-use mathlib.Core.{Path._≡_, Path.refl}
+use Rattle.model.proofs.Logic.{_≡_, refl}
 use Rattle.model.specs.{Records.bindingIn, Records.consumerIn, Records.declaredPort, Records.givenParent, Records.ownerIn, Records.parentIn, Records.storedParent, declared.Binding.Binding, declared.Parent.Parent, declared.Port.Port, declared.records.Declaration.Declaration, declared.records.Link.Link, declared.records.Node.Node, declared.records.StoredParent.StoredParent}
 
 pub port-is : {p q : Port} → p .key ≡ q .key → p .realm ≡ q .realm → p ≡ q

@@ -1,8 +1,6 @@
 -- Tests in order: those that all passed, and the first that applies.
-use mathlib.Core.{Bool.Bool, Bool.false, Bool.true, List.[], List._++_, List._∷_, Option.Option, Option.none, Option.some, Path._≡_, Path.refl}
-use Prim.Native.{Nat.ℕ}
-use native.Mathlib.{Omega.arith}
-use Rattle.model.specs.{Answers.checked, Commands.Command, Commands.Outcome, Commands.report, Commands.result, Commands.settle, Commands.step, Commands.tests, Lists.all, Refusals.Reply, Refusals.Tests, Refusals.accepted, Refusals.first, Sizes.Sizes, Tables.Tables, declared.Answer.Answer, declared.Error.Error}
+use Rattle.model.proofs.Logic.{Bool, Option, [], _++_, _∷_, _≡_, arith, false, none, refl, some, true, ℕ}
+use Rattle.model.specs.{Answers.checked, Commands.Command, Commands.Step, Commands.report, Commands.result, Commands.settle, Commands.step, Commands.tests, Lists.all, Refusals.Reply, Refusals.Tests, Refusals.accepted, Refusals.first, Sizes.Sizes, Tables.Tables, declared.Answer.Answer, declared.Error.Error}
 use Rattle.model.proofs.{Laws.Booleans.and-l, Laws.Booleans.and-r}
 
 -- no test of a row applies, by place
@@ -62,7 +60,7 @@ passed-first (t ∷ ts) us p = rw (p .0) (passed-first ts us (p .1))
 
 -- a command's outcome, refused or accepted
 pub step-cases :
-    (P : Outcome → Type 0) (S : Sizes) (T : Tables) (c : Command)
+    (P : Step → Type 0) (S : Sizes) (T : Tables) (c : Command)
     → ((e : Error) → first (tests S T c) ≡ some e → P (record { tables = T; reply = Reply.refused e }))
     → (Passed (tests S T c) → P (record { tables = result T c; reply = report T c }))
     → P (step S T c)

@@ -1,8 +1,5 @@
 -- What resolve and target found, as facts.
-use mathlib.Core.{Bool.Bool, Bool._&&_, Bool._||_, Bool.false, Bool.not, Bool.true, List.List, List.List·Memᴰ, List.List·Memᴰ·cases-cons, List.List·Memᴰ·head, List.List·Memᴰ·not-nil, List.List·Memᴰ·tail, List.Memᴰ·cast, List.[], List._∷_, List.map, Logic._⊎_, Logic.inl, Logic.inr, Option.Option, Option.none, Option.some, Path._∙_, Path._≡_, Path.ap, Path.refl, Path.sym}
-use Prim.Native.{Nat.ℕ}
-use native.Mathlib.{Omega.arith}
-use borrow.{Author.Tests.eq-eqb, Author.Tests.eqb-true}
+use Rattle.model.proofs.Logic.{Bool, List, List·Memᴰ, List·Memᴰ·cases-cons, List·Memᴰ·head, List·Memᴰ·not-nil, List·Memᴰ·tail, Memᴰ·cast, Option, [], _&&_, _||_, _∙_, _∷_, _≡_, _⊎_, ap, arith, eq-eqb, eqb-true, false, inl, inr, map, none, not, refl, some, sym, true, ℕ}
 use Rattle.model.specs.{Lists.keep, Records.bindingOf, Records.declaredPort, Records.dependency, Records.isActive, Records.ownerIn, Records.portOf, Records.provision, Records.samePort, Resolution.bindPorts, Resolution.dependencyPorts, Resolution.isDependencyOf, Resolution.joined, Resolution.offers, Resolution.resolve, Resolution.target, Tables.Tables, Tables.nodeAt, Tables.present, Tables.providing, declared.Binding.Binding, declared.Port.Port, declared.records.Declaration.Declaration, declared.records.Node.Node}
 use Rattle.model.proofs.{Laws.Booleans.and-l, Laws.Booleans.and-r, Laws.Booleans.both-or, Laws.Booleans.cases, Laws.Booleans.not-f, Laws.Booleans.not-t, Laws.Booleans.or-f-l, Laws.Booleans.or-f-r, Laws.Facts.same-port, Laws.Lists.in-keep, Laws.Lists.in-map, Laws.Lists.keep-in, Laws.Lists.map-in, Laws.Records.declaration-is}
 

@@ -1,9 +1,5 @@
 -- Sums over the identities below a bound.
-use mathlib.Core.{Bool.cond, Path._≡_, Path.refl}
-use Prim.Native.{Nat._+_, Nat._<_, Nat._≤_, Nat.suc, Nat.zero, Nat.ℕ}
-use native.Mathlib.{Decide.decLt, Decide.ℕ-discrete, Omega.arith}
-use lib.{Dec.eqb}
-use borrow.{Author.Tests.eq-eqb, Author.Tests.ne-eqb}
+use Rattle.model.proofs.Logic.{_+_, _<_, _≡_, _≤_, arith, cond, decLt, eq-eqb, eqb, ne-eqb, refl, suc, zero, ℕ, ℕ-discrete}
 
 unfoldable pub sumTo : ℕ → (ℕ → ℕ) → ℕ
 sumTo zero f = 0

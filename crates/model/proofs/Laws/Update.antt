@@ -1,8 +1,5 @@
 -- What one node anew, other links or other declarations leave of the facts.
-use mathlib.Core.{Bool.Bool, Bool.false, Bool.not, Bool.true, List.List, List.List·Memᴰ, Logic._⊎_, Logic.inl, Logic.inr, Path._≡_, Path.refl, Path.sym}
-use Prim.Native.{Nat._<_, Nat.ℕ}
-use native.Mathlib.{Nat.le-trans}
-use lib.{ListN.length, ListN.length-set, ListN.set}
+use Rattle.model.proofs.Logic.{Bool, List, List·Memᴰ, _<_, _≡_, _⊎_, false, inl, inr, le-trans, length, length-set, not, refl, set, sym, true, ℕ}
 use Rattle.model.specs.{Lists.keep, Records.bindingIn, Records.consumerIn, Records.dependency, Records.isInactive, Records.isUnloading, Records.ownerIn, Records.parentIn, Records.portIn, Records.providerIn, Records.provision, Sizes.Sizes, Soundness.ordered, Soundness.parentOk, Tables.Tables, Tables.nodeAt, Tables.notInactive, Tables.present, Tables.withDeclarations, Tables.withLinks, Tables.withNode, declared.Parent.Parent, declared.records.Declaration.Declaration, declared.records.Link.Link, declared.records.Node.Node}
 use Rattle.model.proofs.{Laws.Booleans.cases, Laws.Booleans.clash, Laws.Facts.Covered, Laws.Facts.Fits, Laws.Facts.LinkOk, Laws.Facts.LiveOk, Laws.Facts.NodeOk, Laws.Facts.Safe, Laws.Facts.Sound, Laws.Facts.Unique, Laws.Lists.in-keep, Laws.Lists.keep-in, Laws.Lists.length-keep, Laws.Nodes.at-set, Laws.Nodes.parent-kept, Laws.Nodes.present-lt}
 

@@ -1,9 +1,5 @@
 -- begin keeps soundness: the node starts, and the target's bindings become live links behind the others.
-use mathlib.Core.{Bool.false, Bool.true, List.List, List.List·Memᴰ, List.List·Memᴰ·append-cases, List.Memᴰ·append-left, List.Memᴰ·append-right, List.Memᴰ·cast, List._++_, List.map, Logic._⊎_, Logic.inl, Logic.inr, Path._∙_, Path._≡_, Path.ap, Path.refl, Path.sym}
-use Prim.Native.{Nat._+_, Nat._<_, Nat._≤_, Nat.ℕ}
-use native.Mathlib.{Decide.ℕ-discrete}
-use lib.{ListN.length, ListN.length-append, ListN.length-map, ListN.length-set, ListN.set}
-use borrow.{Author.Tests.ltb-false}
+use Rattle.model.proofs.Logic.{List, List·Memᴰ, List·Memᴰ·append-cases, Memᴰ·append-left, Memᴰ·append-right, Memᴰ·cast, _++_, _+_, _<_, _∙_, _≡_, _≤_, _⊎_, ap, false, inl, inr, length, length-append, length-map, length-set, ltb-false, map, refl, set, sym, true, ℕ, ℕ-discrete}
 use Rattle.model.specs.{Lifecycle.beginTests, Lifecycle.begun, Lifecycle.begunNode, Lifecycle.phaseAt, Records.bindingIn, Records.consumerIn, Records.declaredPort, Records.dependency, Records.isInactive, Records.liveLink, Records.ownerIn, Records.portOf, Records.providerIn, Resolution.target, Sizes.Sizes, Soundness.ordered, Tables.Tables, Tables.nodeAt, Tables.notInactive, Tables.present, Tables.withLinks, Tables.withNode, declared.Binding.Binding, declared.records.Link.Link, declared.records.Node.Node}
 use Rattle.model.proofs.{Laws.Booleans.clash, Laws.Booleans.not-f, Laws.Facts.Covered, Laws.Facts.Fits, Laws.Facts.Linked, Laws.Facts.LiveOk, Laws.Facts.Safe, Laws.Facts.Sound, Laws.Facts.not-restoring, Laws.Lists.in-map, Laws.Lists.is-some, Laws.Lists.map-in, Laws.Nodes.at-other, Laws.Nodes.at-set, Laws.Nodes.at-set-other, Laws.Nodes.present-lt, Laws.Order.apart-of, Laws.Order.ordered-all, Laws.Order.ordered-append, Laws.Phases.active-installed, Laws.Phases.active-stays, Laws.Phases.inactive-stays, Laws.Records.declaration-is, Laws.Refusals.Passed, Laws.Resolution.Resolved, Laws.Resolution.Targeted, Laws.Resolution.target-covers, Laws.Resolution.target-needed, Laws.Resolution.target-resolved, Laws.Resolution.targeted, Laws.Update.Serves, Laws.Update.Stands, Laws.Update.calm, Laws.Update.safe-links, Laws.Update.safe-update}
 

@@ -1,6 +1,5 @@
 -- Every command keeps soundness, and so does every list of commands from the empty kernel.
-use mathlib.Core.{Bool.true, List.List, List.List·Memᴰ·not-nil, List.[], List._∷_, Path._≡_, Path.refl}
-use native.Mathlib.{Omega.arith}
+use Rattle.model.proofs.Logic.{List, List·Memᴰ·not-nil, [], _∷_, _≡_, arith, refl, true}
 use Rattle.model.proofs.{Laws.Facts.Sound, Laws.Facts.blank-ok, Laws.Facts.facts, Laws.Facts.of-facts, Laws.Refusals.Passed, Laws.Refusals.step-keeps, Theorems.Begin.begun-sound, Theorems.Compaction.bindingsCompacted-sound, Theorems.Compaction.declarationsCompacted-sound, Theorems.FinishCleanup.cleanupFinished-sound, Theorems.Insertion.inserted-sound, Theorems.Interface.dependenciesConfigured-sound, Theorems.Interface.provisionDeclared-sound, Theorems.Interface.provisionReleased-sound, Theorems.Lifecycle.cleanupBegun-sound, Theorems.Lifecycle.finished-sound, Theorems.Lifecycle.left-sound, Theorems.Lifecycle.removedFrom-sound, Theorems.Lifecycle.retiredFrom-sound}
 use Rattle.model.specs.{Commands.Command, Commands.result, Commands.run, Commands.runFrom, Commands.step, Commands.tests, Lists.onward, Sizes.Sizes, Soundness.sound, Tables.Tables, Tables.empty, Tables.nodeAt}
 

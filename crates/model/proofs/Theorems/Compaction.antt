@@ -1,5 +1,5 @@
 -- The compactions keep soundness.
-use native.Mathlib.{Nat.le-trans}
+use Rattle.model.proofs.Logic.{le-trans}
 use Rattle.model.proofs.{Laws.Facts.Sound, Laws.Lists.in-keep, Laws.Lists.keep-in, Laws.Lists.length-keep, Laws.Order.ordered-keep, Laws.Update.safe-links, Laws.Update.sub-declarations}
 use Rattle.model.specs.{Compaction.bindingsCompacted, Compaction.declarationsCompacted, Lists.keep, Records.isLive, Records.ownerIn, Sizes.Sizes, Tables.Tables, Tables.present}
 

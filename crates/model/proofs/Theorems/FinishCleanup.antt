@@ -1,9 +1,5 @@
 -- finish_cleanup keeps soundness: the links of the consumer become dead.
-use mathlib.Core.{Bool.false, Bool.not, Bool.true, List.List, List.List·Memᴰ, List.map, Path._∙_, Path._≡_, Path.ap, Path.refl, Path.sym}
-use Prim.Native.{Nat._<_, Nat.ℕ}
-use native.Mathlib.{Omega.arith}
-use lib.{ListN.length, ListN.length-map, ListN.length-set}
-use borrow.{Author.Tests.eq-eqb, Author.Tests.ne-eqb}
+use Rattle.model.proofs.Logic.{List, List·Memᴰ, _<_, _∙_, _≡_, ap, arith, eq-eqb, false, length, length-map, length-set, map, ne-eqb, not, refl, sym, true, ℕ}
 use Rattle.model.specs.{Lifecycle.cleanupFinished, Lifecycle.finishCleanupTests, Records.consumerIn, Records.deadFor, Records.declaredPort, Records.isInactive, Records.ownerIn, Records.restoredNode, Sizes.Sizes, Soundness.apart, Tables.Tables, Tables.nodeAt, Tables.notInactive, Tables.present, Tables.withLinks, Tables.withNode, declared.Port.Port, declared.records.Link.Link, declared.records.Node.Node}
 use Rattle.model.proofs.{Laws.Booleans.and-i, Laws.Booleans.and-l, Laws.Booleans.and-r, Laws.Booleans.clash, Laws.Booleans.f-not, Laws.Booleans.not-f, Laws.Booleans.not-t, Laws.Facts.Covered, Laws.Facts.Linked, Laws.Facts.Safe, Laws.Facts.Sound, Laws.Lists.in-map, Laws.Lists.map-in, Laws.Nodes.at-set, Laws.Nodes.at-set-other, Laws.Nodes.present-lt, Laws.Order.apart-of, Laws.Order.of-apart, Laws.Order.ordered-map, Laws.Refusals.Passed, Laws.Update.safe-links, Laws.Update.safe-update}
 

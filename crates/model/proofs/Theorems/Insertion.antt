@@ -1,9 +1,5 @@
 -- Insertion keeps soundness.
-use mathlib.Core.{Bool._||_, Bool.false, Bool.not, Bool.true, List.List, List.List·Memᴰ, List.List·Memᴰ·append-cases, List.Memᴰ·append-left, List.[], List._++_, List._∷_, List.map, Logic._⊎_, Logic.inl, Logic.inr, Path._∙_, Path._≡_, Path.ap, Path.refl, Path.sym}
-use Prim.Native.{Nat._+_, Nat._<_, Nat._≤_, Nat.ℕ}
-use native.Mathlib.{Omega.arith}
-use lib.{Dec.ltb, ListN.length, ListN.length-append, ListN.length-map, Seq.getD-append-seam}
-use borrow.{Author.Tests.leb-false, Author.Tests.lt-ltb, Author.Tests.ltb-false}
+use Rattle.model.proofs.Logic.{List, List·Memᴰ, List·Memᴰ·append-cases, Memᴰ·append-left, [], _++_, _+_, _<_, _||_, _∙_, _∷_, _≡_, _≤_, _⊎_, ap, arith, false, getD-append-seam, inl, inr, leb-false, length, length-append, length-map, lt-ltb, ltb, ltb-false, map, not, refl, sym, true, ℕ}
 use Rattle.model.specs.{Insertion.insertTests, Insertion.inserted, Insertion.parentPresent, Interface.distinct, Interface.listed, Interface.taken, Lists.any, Records.bindingIn, Records.blankNode, Records.consumerIn, Records.declaredPort, Records.dependency, Records.isInactive, Records.newNode, Records.ownerIn, Records.parentIn, Records.providerIn, Records.provision, Sizes.Sizes, Soundness.parentOk, Tables.Tables, Tables.nodeAt, Tables.notInactive, Tables.present, declared.Parent.Parent, declared.Port.Port, declared.PortList.PortList, declared.records.Declaration.Declaration, declared.records.Node.Node}
 use Rattle.model.proofs.{Laws.Booleans.and-i, Laws.Booleans.clash, Laws.Booleans.not-f, Laws.Booleans.or-f-r, Laws.Facts.Linked, Laws.Facts.LiveOk, Laws.Facts.NodeOk, Laws.Facts.Sound, Laws.Lists.in-map, Laws.Lists.none-in, Laws.Nodes.at-snoc, Laws.Nodes.old-at, Laws.Nodes.parent-kept, Laws.Nodes.present-lt, Laws.Records.parent-read, Laws.Refusals.Passed, Theorems.Interface.not-taken}
 

@@ -1,9 +1,5 @@
 -- The interface commands keep soundness.
-use mathlib.Core.{Bool.Bool, Bool._&&_, Bool.and-false, Bool.cond, Bool.false, Bool.not, Bool.true, List.List, List.List·Memᴰ, List.List·Memᴰ·append-cases, List.List·Memᴰ·eq-of-singleton, List.Memᴰ·append-left, List.[], List._++_, List._∷_, List.map, Logic._⊎_, Logic.inl, Logic.inr, Path._∙_, Path._≡_, Path.ap, Path.refl, Path.sym}
-use Prim.Native.{Nat._+_, Nat._<_, Nat._≤_, Nat.ℕ}
-use native.Mathlib.{Omega.arith}
-use lib.{Dec.eqb, Dec.leb, ListN.length, ListN.length-append, ListN.length-map}
-use borrow.{Author.Tests.leb-false, Author.Tests.ltb-false, Author.Tests.ne-eqb}
+use Rattle.model.proofs.Logic.{Bool, List, List·Memᴰ, List·Memᴰ·append-cases, List·Memᴰ·eq-of-singleton, Memᴰ·append-left, [], _&&_, _++_, _+_, _<_, _∙_, _∷_, _≡_, _≤_, _⊎_, and-false, ap, arith, cond, eqb, false, inl, inr, leb, leb-false, length, length-append, length-map, ltb-false, map, ne-eqb, not, refl, sym, true, ℕ}
 use Rattle.model.specs.{Interface.configureTests, Interface.declareProvisionTests, Interface.dependenciesConfigured, Interface.listed, Interface.own, Interface.provisionDeclared, Interface.provisionReleased, Interface.releaseProvisionTests, Interface.reliesOn, Interface.taken, Interface.takenBy, Lists.keep, Records.consumerIn, Records.declaredPort, Records.dependency, Records.isInactive, Records.ownerIn, Records.portIn, Records.providerIn, Records.provision, Records.samePort, Resolution.isDependencyOf, Sizes.Sizes, Soundness.isDeclaration, Tables.Tables, Tables.nodeAt, Tables.notInactive, Tables.present, Tables.withDeclarations, declared.Port.Port, declared.PortList.PortList, declared.records.Declaration.Declaration, declared.records.Link.Link}
 use Rattle.model.proofs.{Laws.Booleans.and-i, Laws.Booleans.and-l, Laws.Booleans.clash, Laws.Booleans.f-not, Laws.Booleans.not-f, Laws.Facts.Linked, Laws.Facts.Sound, Laws.Facts.port-same, Laws.Lists.in-keep, Laws.Lists.in-map, Laws.Lists.keep-in, Laws.Lists.length-keep, Laws.Lists.none-in, Laws.Nodes.present-lt, Laws.Refusals.Passed, Laws.Update.LiveLinks, Laws.Update.safe-declarations, Laws.Update.sub-declarations}
 

@@ -1,10 +1,8 @@
 -- The iteration rule, of every list of commands.
-use mathlib.Core.{Bool.Bool, Bool.false, Bool.not, Bool.true, List.List, List.List·Memᴰ, List.List·Memᴰ·head, List.List·Memᴰ·tail, List.[], List._∷_, List.cons≢nil, List.head-eq-of-cons-eq, List.map, List.nil≢cons, List.tail-eq-of-cons-eq, Option.Option, Option.none, Option.some, Path._∙_, Path._≡_, Path.ap, Path.refl, Path.sym}
-use Prim.Native.{Nat.ℕ}
-use native.Mathlib.{Omega.arith}
+use Rattle.model.proofs.Logic.{Bool, List, List·Memᴰ, List·Memᴰ·head, List·Memᴰ·tail, Option, [], _∙_, _∷_, _≡_, ap, arith, cons≢nil, false, head-eq-of-cons-eq, map, nil≢cons, none, not, refl, some, sym, tail-eq-of-cons-eq, true, ℕ}
 use contract.Running.{tables}
-use Rattle.model.specs.{Commands.Command, Commands.Outcome, Commands.run, Commands.settle, Commands.step, Iteration.IterationRule, Iteration.RuleAt, Iteration.last, Iteration.loads, Iteration.runs, Lifecycle.checkIteration, Lifecycle.iterationTests, Lifecycle.leaveIfChangedTests, Lifecycle.left, Lifecycle.phaseAt, Lists.isNone, Lists.keep, Observers.phase, Records.bindingIn, Records.consumerIn, Records.isLoading, Records.isRunning, Records.portIn, Records.portOf, Records.providerIn, Records.provision, Records.withPhase, Refusals.Reply, Refusals.first, Refusals.orElse, Resolution.committed, Resolution.dependencyPorts, Resolution.isLiveLinkOf, Resolution.target, Sizes.Sizes, Soundness.sound, Tables.Tables, Tables.empty, Tables.nodeAt, Tables.present, declared.Binding.Binding, declared.Error.Error, declared.Phase.Phase, declared.records.Link.Link}
-use Rattle.model.proofs.{Laws.Booleans.clash, Laws.Committed.live-link-of, Laws.Facts.LiveOk, Laws.Facts.Safe, Laws.Facts.facts, Laws.Lists.in-keep, Laws.Lists.in-map, Laws.Nodes.at-same, Laws.Nodes.present-lt, Laws.Phases.loading-running, Laws.Phases.running-installed, Laws.Refusals.skip, Laws.Resolution.Resolved, Laws.Resolution.Targeted, Laws.Resolution.bound-ports, Laws.Resolution.target-resolved, Laws.Resolution.targeted, Theorems.Commands.empty-sound, Theorems.Commands.run-sound, Theorems.Kept.Kept, Theorems.Kept.empty-kept, Theorems.Kept.from-kept}
+use Rattle.model.specs.{Commands.Command, Commands.Step, Commands.run, Commands.settle, Commands.step, Iteration.IterationRule, Iteration.RuleAt, Iteration.last, Iteration.loads, Iteration.runs, Lifecycle.checkIteration, Lifecycle.iterationTests, Lifecycle.leaveIfChangedTests, Lifecycle.left, Lifecycle.phaseAt, Lists.isNone, Lists.keep, Observers.phase, Records.bindingIn, Records.consumerIn, Records.isLoading, Records.isRunning, Records.portIn, Records.portOf, Records.providerIn, Records.provision, Records.withPhase, Refusals.Reply, Refusals.first, Refusals.orElse, Resolution.committed, Resolution.dependencyPorts, Resolution.isLiveLinkOf, Resolution.target, Sizes.Sizes, Soundness.sound, Tables.Tables, Tables.empty, Tables.nodeAt, Tables.present, declared.Binding.Binding, declared.Error.Error, declared.Phase.Phase, declared.records.Link.Link}
+use Rattle.model.proofs.{Laws.Booleans.clash, Laws.Committed.live-link-of, Laws.Facts.LiveOk, Laws.Facts.Safe, Laws.Facts.facts, Laws.Lists.in-keep, Laws.Lists.in-map, Laws.Nodes.at-same, Laws.Nodes.present-lt, Laws.Phases.loading-running, Laws.Phases.running-installed, Laws.Refusals.skip, Laws.Resolution.Resolved, Laws.Resolution.Targeted, Laws.Resolution.bound-ports, Laws.Resolution.target-resolved, Laws.Resolution.targeted, Theorems.Commands.empty-sound, Theorems.Commands.run-sound, Theorems.IterationInvariant.IterationInvariant, Theorems.IterationInvariant.empty-kept, Theorems.IterationInvariant.from-kept}
 
 pub same-bindings : (bs cs : List Binding) → map portOf bs ≡ map portOf cs → ((b c : Binding) → List·Memᴰ b bs → List·Memᴰ c cs → portOf b ≡ portOf c → b .provider ≡ c .provider) → bs ≡ cs
 same-bindings [] [] e f = refl
@@ -54,7 +52,7 @@ module _ (S : Sizes) (T : Tables) (id : ℕ) (t : present (T .nodes) id ≡ true
   unfolding checkIteration first
   check-changed e l = ap (λ (o : Option Error). orElse o Reply.done) (check-first none e l)
 
-  away : Outcome
+  away : Step
   away = record { tables = left T id; reply = Reply.done }
 
   leave-first : (o : Option (List Binding)) → target T id ≡ o → isRunning (phaseAt T id) ≡ true → first (leaveIfChangedTests T id) ≡ first ((not (isNone o), Error.Changed) ∷ [])
@@ -87,7 +85,7 @@ observed T id f g n s h = go (present (T .nodes) id) refl
     go true e = (e, sym (s (phaseAt T id)) ∙ (rw (e, phase) at h))
     go false e = clash _ (rw (e, phase) at h) n
 
-module _ (S : Sizes) (T : Tables) (h : sound S T ≡ true) (id : ℕ) (a : Option (List Binding)) (q : Kept T id a) where
+module _ (S : Sizes) (T : Tables) (h : sound S T ≡ true) (id : ℕ) (a : Option (List Binding)) (q : IterationInvariant T id a) where
   running : runs (phase T id) ≡ true → (present (T .nodes) id ≡ true) × (isRunning (phaseAt T id) ≡ true)
   running r = observed T id isRunning runs refl (λ x. refl) r
 
@@ -117,8 +115,8 @@ module _ (S : Sizes) (T : Tables) (h : sound S T ≡ true) (id : ℕ) (a : Optio
         check-refuses = λ m x. absurd (x (same bs e (loaded ((isloading m) .1))));
         leave-accepts = λ m.
             let (t, r) = running m in
-            (λ x y. refusal-not-done {C = ⊥} Error.Changed (sym (ap (λ (z : Outcome). z .reply) (leave-unchanged S T id t bs e r)) ∙ x .0), λ x. absurd (x (same bs e r)));
-        leave-refuses = λ m x. let (t, r) = running m in ap (λ (z : Outcome). z .reply) (leave-unchanged S T id t bs e r);
+            (λ x y. refusal-not-done {C = ⊥} Error.Changed (sym (ap (λ (z : Step). z .reply) (leave-unchanged S T id t bs e r)) ∙ x .0), λ x. absurd (x (same bs e r)));
+        leave-refuses = λ m x. let (t, r) = running m in ap (λ (z : Step). z .reply) (leave-unchanged S T id t bs e r);
       }
 
 -- demand 3

@@ -1,7 +1,5 @@
 -- Reached kernels are sound, so that no command on one answers 10, and the iteration rule holds of them.
-use mathlib.Core.{Bool.Bool, Bool._&&_, Bool.cond, Bool.false, Bool.not, Bool.true, List.List, List.[], List._∷_, Option.Option, Option.none, Option.some, Path._∙_, Path._≡_, Path.ap, Path.refl}
-use Prim.Native.{Nat.ℕ}
-use lib.{Dec.eqb}
+use Rattle.model.proofs.Logic.{Bool, List, Option, [], _&&_, _∙_, _∷_, _≡_, ap, cond, eqb, false, none, not, refl, some, true, ℕ}
 use Rattle.model.specs.{Commands.Command, Commands.report, Commands.result, Commands.run, Commands.runFrom, Commands.settle, Commands.step, Commands.tests, Iteration.RuleAt, Iteration.begins, Iteration.last, Iteration.lastFrom, Iteration.noted, Kernels.Commanded, Kernels.KernelIterationRule, Kernels.KernelRuleAt, Kernels.asked, Kernels.commanded, Kernels.committedOf, Kernels.iterationOf, Kernels.kernelFrom, Kernels.kernelLastFrom, Kernels.phaseOf, Kernels.reached, Kernels.targetOf, Layouts.Layout, Layouts.Sized, Layouts.layOut, Layouts.soundKernel, Layouts.tablesOf, Lifecycle.checkIteration, Lists.all, Observers.phase, Refusals.Reply, Refusals.accepted, Refusals.first, Refusals.number, Resolution.committed, Resolution.target, Sizes.Sizes, Soundness.sound, Tables.Tables, Tables.empty, declared.Binding.Binding, declared.Error.Error}
 use Rattle.model.proofs.{Laws.Booleans.clash, Laws.Refusals.Passed, Laws.Refusals.first-among, Laws.Refusals.of-passed, Laws.Refusals.report-accepts, Laws.Refusals.step-cases, Theorems.Commands.empty-sound, Theorems.Commands.run-sound, Theorems.Commands.step-sound, Theorems.Iteration.iteration-rule, Theorems.Layouts.laid-out, Theorems.Layouts.layout-sound, Theorems.Layouts.read-back}
 

@@ -1,9 +1,5 @@
 -- A sound kernel is its tables laid out, and tables come back from their layout.
-use mathlib.Core.{Bool.true, List.List, Path._∙_, Path._≡_, Path.ap, Path.refl, Path.sym}
-use Prim.Native.{Nat._≤_, Nat.ℕ}
-use native.Mathlib.{Omega.arith}
-use lib.{ListN.drop, ListN.getD, ListN.length, ListN.take, Seq.length-take-le}
-use borrow.{Author.Tests.le-leb, Author.Tests.leb-true}
+use Rattle.model.proofs.Logic.{List, _∙_, _≡_, _≤_, ap, arith, drop, getD, le-leb, leb-true, length, length-take-le, refl, sym, take, true, ℕ}
 use Rattle.model.specs.{Layouts.Layout, Layouts.Sized, Layouts.layOut, Layouts.layoutTests, Layouts.soundKernel, Layouts.tablesOf, Lists.all, Lists.conj, Lists.padded, Records.blankDeclaration, Records.blankLink, Records.blankNode, Records.isBlankDeclaration, Records.isBlankLink, Records.isBlankNode, Sizes.Sizes, Soundness.fits, Soundness.sound, Soundness.wf, Tables.Tables, Tables.nodeAt, declared.records.Node.Node}
 use Rattle.model.proofs.{Laws.Arrays.getD-padded, Laws.Arrays.length-padded, Laws.Arrays.rest-blank, Laws.Arrays.take-padded, Laws.Arrays.whole-array, Laws.Blanks.blank-declaration, Laws.Blanks.blank-link, Laws.Blanks.blank-node, Laws.Booleans.Each, Laws.Booleans.and-i, Laws.Booleans.and-l, Laws.Booleans.and-r, Laws.Booleans.each, Laws.Booleans.of-each, Laws.Facts.Fits, Laws.Facts.fits-of, Laws.Facts.of-fits}
 

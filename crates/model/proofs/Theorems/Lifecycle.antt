@@ -1,8 +1,5 @@
 -- finish, leave, retire, begin_cleanup and remove keep soundness: one node is written anew.
-use mathlib.Core.{Bool.false, Bool.not, Bool.true, Path._≡_, Path.refl}
-use Prim.Native.{Nat.ℕ}
-use lib.{Dec.eqb}
-use borrow.{Author.Tests.eq-eqb}
+use Rattle.model.proofs.Logic.{_≡_, eq-eqb, eqb, false, not, refl, true, ℕ}
 use Rattle.model.specs.{Lifecycle.beginCleanupTests, Lifecycle.cleanupBegun, Lifecycle.finished, Lifecycle.iterationTests, Lifecycle.leaveTests, Lifecycle.left, Lifecycle.relies, Lifecycle.removeTests, Lifecycle.removedFrom, Lifecycle.retireTests, Lifecycle.retiredFrom, Observers.children, Records.isInactive, Records.isRunning, Records.isUnloading, Records.providerIn, Sizes.Sizes, Tables.Tables, Tables.nodeAt, Tables.present, declared.records.Node.Node}
 use Rattle.model.proofs.{Laws.Booleans.and-i, Laws.Booleans.and-l, Laws.Booleans.and-r, Laws.Booleans.clash, Laws.Booleans.not-f, Laws.Facts.Sound, Laws.Lists.none-in, Laws.Phases.inactive-stays, Laws.Phases.loading-running, Laws.Phases.running-installed, Laws.Phases.running-stays, Laws.Phases.unloading-installed, Laws.Refusals.Passed, Laws.Update.calm, Laws.Update.sound-update, Theorems.UpdateNode.no-child}
 

@@ -1,9 +1,5 @@
 -- The test of soundness is document 01's six points, both ways.
-use mathlib.Core.{Bool.Bool, Bool._&&_, Bool.false, Bool.not, Bool.true, List.List, List.List·Memᴰ, Logic._↔_, Path._∙_, Path._≡_, Path.refl}
-use Prim.Native.{Nat._<_, Nat.ℕ}
-use native.Mathlib.{Decide.decLt, Omega.arith}
-use lib.{Dec.ltb, ListN.getD, ListN.length}
-use borrow.{Author.Tests.lt-ltb, Author.Tests.ltb-true}
+use Rattle.model.proofs.Logic.{Bool, List, List·Memᴰ, _&&_, _<_, _↔_, _∙_, _≡_, arith, decLt, false, getD, length, lt-ltb, ltb, ltb-true, not, refl, true, ℕ}
 use Rattle.model.specs.{Lifecycle.phaseAt, Points.At, Points.Installed, Points.Points, Points.Present, Points.Restoring, Points.Within, Records.bindingIn, Records.blankNode, Records.consumerIn, Records.isInactive, Records.parentIn, Records.providerIn, Sizes.Sizes, Soundness.apart, Soundness.fits, Soundness.parentOk, Soundness.safetyWf, Soundness.sound, Soundness.wf, Tables.Tables, Tables.nodeAt, Tables.notInactive, Tables.present, declared.Parent.Parent, declared.Phase.Phase, declared.records.Link.Link, declared.records.Node.Node}
 use Rattle.model.proofs.{Laws.Booleans.and-i, Laws.Booleans.and-l, Laws.Booleans.and-r, Laws.Booleans.clash, Laws.Booleans.not-t, Laws.Facts.Covered, Laws.Facts.Fits, Laws.Facts.LiveOk, Laws.Facts.NodeOk, Laws.Facts.Safe, Laws.Facts.blank-ok, Laws.Facts.covered-of, Laws.Facts.fits-of, Laws.Facts.of-covered, Laws.Facts.of-fits, Laws.Facts.of-safe, Laws.Facts.safe-of, Laws.Lists.at-in, Laws.Lists.at-onward, Laws.Lists.getD-any, Laws.Lists.in-at, Laws.Lists.onward-at, Laws.Nodes.past-blank, Laws.Nodes.present-lt, Laws.Order.apart-of, Laws.Order.of-apart, Laws.Phases.inactive-is, Laws.Phases.unloading-is}
 

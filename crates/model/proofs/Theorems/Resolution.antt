@@ -1,7 +1,5 @@
 -- On sound tables resolve gives o exactly if o is present, Active and provides the port, and none exactly if there is no such owner; at most one there is.
-use mathlib.Core.{Bool.Bool, Bool.false, Bool.true, List.List, List.List·Memᴰ, List.List·Memᴰ·head, List.List·Memᴰ·tail, Logic._↔_, Option.Option, Option.none, Option.some, Path._≡_, Path.ap, Path.refl}
-use Prim.Native.{Nat.ℕ}
-use native.Mathlib.{Omega.arith}
+use Rattle.model.proofs.Logic.{Bool, List, List·Memᴰ, List·Memᴰ·head, List·Memᴰ·tail, Option, _↔_, _≡_, ap, arith, false, none, refl, some, true, ℕ}
 use Rattle.model.specs.{Lifecycle.phaseAt, Records.provision, Resolution.Provides, Resolution.offers, Resolution.resolve, Sizes.Sizes, Soundness.sound, Tables.Tables, Tables.nodeAt, Tables.present, Tables.providing, declared.Port.Port, declared.records.Declaration.Declaration}
 use Rattle.model.proofs.{Laws.Booleans.and-i, Laws.Facts.facts, Laws.Facts.port-same, Laws.Lists.at-in, Laws.Lists.in-at, Laws.Nodes.present-lt, Laws.Phases.active-is, Laws.Resolution.Resolved, Laws.Resolution.resolved, Theorems.Points.at-node, Theorems.Points.node-at, Theorems.Points.to-present}
 

@@ -1,11 +1,7 @@
 -- On a reached kernel a begin refused for link space is accepted after compact_bindings.
-use mathlib.Core.{Bool.Bool, Bool._&&_, Bool.cond, Bool.false, Bool.not, Bool.true, List.List, List.List·Memᴰ, List.List·Memᴰ·head, List.List·Memᴰ·tail, List.[], List._++_, List._∷_, List.map, Logic._⊎_, Logic.inl, Logic.inr, Option.Option, Option.none, Option.some, Path._∙_, Path._≡_, Path.ap, Path.refl, Path.subst, Path.sym}
-use Prim.Native.{Nat._+_, Nat._<_, Nat._≤_, Nat.suc, Nat.ℕ}
-use native.Mathlib.{Decide.ℕ-discrete, Omega.arith}
-use lib.{Dec.eqb, ListN.length, ListN.length-map}
-use borrow.{Author.Tests.eq-eqb, Author.Tests.le-ltb, Author.Tests.ne-eqb}
-use Rattle.model.specs.{Commands.Command, Commands.Outcome, Commands.report, Commands.result, Commands.run, Commands.settle, Commands.step, Commands.tests, Compaction.bindingsCompacted, Lifecycle.beginNodeTests, Lifecycle.beginTests, Lifecycle.begun, Lifecycle.bindings, Lists.isNone, Lists.keep, Records.bindingIn, Records.consumerIn, Records.declaredPort, Records.isLive, Records.ownerIn, Records.portOf, Refusals.Reply, Refusals.Tests, Refusals.first, Refusals.number, Resolution.committed, Resolution.dependencyPorts, Resolution.isDependencyOf, Resolution.isLiveLinkOf, Resolution.target, Sizes.Sizes, Sizes.lastGeneration, Space.RefusedForSpace, Space.SpaceAfterCompaction, Tables.Tables, Tables.empty, Tables.nodeAt, Tables.notInactive, Tables.present, declared.Binding.Binding, declared.Error.Error, declared.records.Declaration.Declaration, declared.records.Link.Link}
-use Rattle.model.proofs.{Laws.Booleans.cases, Laws.Booleans.not-f, Laws.Committed.committed-idle, Laws.Facts.Safe, Laws.Facts.Sound, Laws.Facts.facts, Laws.Lists.is-some, Laws.Nodes.present-lt, Laws.Refusals.Passed, Laws.Refusals.of-passed, Laws.Refusals.skip, Laws.Resolution.bound-ports, Laws.Resolution.targeted, Laws.Sums.plus, Laws.Sums.sum-at, Laws.Sums.sum-le, Laws.Sums.sum-mono, Laws.Sums.sum-same, Laws.Sums.sum-zero, Laws.Sums.sumTo, Theorems.Commands.empty-sound, Theorems.Commands.run-sound, Theorems.Kept.empty-kept, Theorems.Kept.from-kept}
+use Rattle.model.proofs.Logic.{Bool, List, List·Memᴰ, List·Memᴰ·head, List·Memᴰ·tail, Option, [], _&&_, _++_, _+_, _<_, _∙_, _∷_, _≡_, _≤_, _⊎_, ap, arith, cond, eq-eqb, eqb, false, inl, inr, le-ltb, length, length-map, map, ne-eqb, none, not, refl, some, subst, suc, sym, true, ℕ, ℕ-discrete}
+use Rattle.model.specs.{Commands.Command, Commands.Step, Commands.report, Commands.result, Commands.run, Commands.settle, Commands.step, Commands.tests, Compaction.bindingsCompacted, Lifecycle.beginNodeTests, Lifecycle.beginTests, Lifecycle.begun, Lifecycle.bindings, Lists.isNone, Lists.keep, Records.bindingIn, Records.consumerIn, Records.declaredPort, Records.isLive, Records.ownerIn, Records.portOf, Refusals.Reply, Refusals.Tests, Refusals.first, Refusals.number, Resolution.committed, Resolution.dependencyPorts, Resolution.isDependencyOf, Resolution.isLiveLinkOf, Resolution.target, Sizes.Sizes, Sizes.lastGeneration, Space.RefusedForSpace, Space.SpaceAfterCompaction, Tables.Tables, Tables.empty, Tables.nodeAt, Tables.notInactive, Tables.present, declared.Binding.Binding, declared.Error.Error, declared.records.Declaration.Declaration, declared.records.Link.Link}
+use Rattle.model.proofs.{Laws.Booleans.cases, Laws.Booleans.not-f, Laws.Committed.committed-idle, Laws.Facts.Safe, Laws.Facts.Sound, Laws.Facts.facts, Laws.Lists.is-some, Laws.Nodes.present-lt, Laws.Refusals.Passed, Laws.Refusals.of-passed, Laws.Refusals.skip, Laws.Resolution.bound-ports, Laws.Resolution.targeted, Laws.Sums.plus, Laws.Sums.sum-at, Laws.Sums.sum-le, Laws.Sums.sum-mono, Laws.Sums.sum-same, Laws.Sums.sum-zero, Laws.Sums.sumTo, Theorems.Commands.empty-sound, Theorems.Commands.run-sound, Theorems.IterationInvariant.empty-kept, Theorems.IterationInvariant.from-kept}
 
 -- ---- the live links, and the dependencies, by component
 
@@ -135,9 +131,9 @@ accepted S T c p = rw (of-passed (tests S T c) p)
 pub space-after-compaction : SpaceAfterCompaction
 space-after-compaction S w cs id r =
     let T : Tables = run S cs in
-    let c : (step S T Command.compactBindings) .tables ≡ bindingsCompacted T = ap (λ (o : Outcome). o .tables) (accepted S T Command.compactBindings tt) in
+    let c : (step S T Command.compactBindings) .tables ≡ bindingsCompacted T = ap (λ (o : Step). o .tables) (accepted S T Command.compactBindings tt) in
     let p : Passed (beginTests S (bindingsCompacted T) id) = room-begin S T id w (facts S T (run-sound S cs)) (λ j. from-kept S empty j none cs (empty-sound S) (empty-kept j) .ports) (before-space S T id r) in
-    rw c (ap (λ (o : Outcome). o .reply) (accepted S (bindingsCompacted T) (Command.begin id) p))
+    rw c (ap (λ (o : Step). o .reply) (accepted S (bindingsCompacted T) (Command.begin id) p))
 
 -- a begin that gives 9 names a present component
 pub capacity-known : (S : Sizes) (T : Tables) (id : ℕ) → (step S T (Command.begin id)) .reply ≡ Reply.refused Error.Capacity → present (T .nodes) id ≡ true

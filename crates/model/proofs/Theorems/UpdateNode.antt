@@ -1,8 +1,5 @@
 -- update_node keeps soundness without the last point.
-use mathlib.Core.{Bool.Bool, Bool._&&_, Bool._||_, Bool.false, Bool.not, Bool.true, List.List, List.List·Memᴰ, List.List·Memᴰ·head, List.List·Memᴰ·tail, List.[], List._∷_, Logic._⊎_, Logic.inl, Logic.inr, Option.Option, Option.none, Option.some, Path._∙_, Path._≡_, Path.ap, Path.refl}
-use Prim.Native.{Nat.ℕ}
-use lib.{Dec.eqb}
-use borrow.{Author.Tests.eq-eqb, Author.Tests.eqb-true, Author.Tests.ne-eqb}
+use Rattle.model.proofs.Logic.{Bool, List, List·Memᴰ, List·Memᴰ·head, List·Memᴰ·tail, Option, [], _&&_, _||_, _∙_, _∷_, _≡_, _⊎_, ap, eq-eqb, eqb, eqb-true, false, inl, inr, ne-eqb, none, not, refl, some, true, ℕ}
 use Rattle.model.specs.{Commands.settle, Commands.updateNode, Lifecycle.relies, Lifecycle.retiredTests, Lifecycle.unloadingTests, Lists.any, Records.absentNode, Records.consistencyTests, Records.consumerIn, Records.hasParent, Records.isChildOf, Records.isConsistent, Records.isInactive, Records.isUnloading, Records.parentIn, Records.providerIn, Records.restoringNode, Refusals.Reply, Refusals.first, Sizes.Sizes, Soundness.fits, Soundness.safetyWf, Tables.Tables, Tables.nodeAt, Tables.notInactive, Tables.present, Tables.withNode, UpdateNode.blocks, UpdateNode.idle, UpdateNode.updateTests, declared.Error.Error, declared.Parent.Parent, declared.records.Link.Link, declared.records.Node.Node}
 use Rattle.model.proofs.{Laws.Booleans.Each, Laws.Booleans.and-i, Laws.Booleans.and-l, Laws.Booleans.and-r, Laws.Booleans.cases, Laws.Booleans.clash, Laws.Booleans.each, Laws.Booleans.f-not, Laws.Booleans.imp-e, Laws.Booleans.imp-i, Laws.Booleans.not-f, Laws.Booleans.not-t, Laws.Booleans.of-each, Laws.Booleans.or-f-l, Laws.Booleans.or-f-r, Laws.Facts.Safe, Laws.Facts.fits-of, Laws.Facts.of-fits, Laws.Facts.of-safe, Laws.Facts.safe-of, Laws.Lists.none-in, Laws.Nodes.node-in, Laws.Nodes.present-lt, Laws.Phases.unloading-installed, Laws.Refusals.Passed, Laws.Refusals.of-passed, Laws.Refusals.passed, Laws.Refusals.skip, Laws.Update.Update, Laws.Update.fits-update, Laws.Update.safe-update}
 

@@ -1,7 +1,7 @@
 -- What the original's contracts say, clause by clause, of the commands here; docs/CONTRACTS.md cites it by name.
 pub mod Replies
 pub mod Frames
-pub mod Outcomes
+pub mod Subjects
 pub mod Changes
 pub mod Observed
 pub mod Accepted

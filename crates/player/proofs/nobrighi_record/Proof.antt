@@ -1,8 +1,5 @@
 -- `player::nobrighi_record` is safe and ends: a command takes at least one byte of the log.
-use Prim.Native.{Nat._-_}
-use native.Mathlib.{Omega.arith}
-use mathlib.Core.{Path._≡_}
-use lib.{ListN.length}
+use Rattle.model.proofs.Logic.{_-_, _≡_, arith, length}
 use Rattle.player.proofs.{nobrighi_record.Statement.statement}
 use Rattle.player.proofs.nobrighi_record.Tie as tie
 
@@ -17,11 +14,7 @@ add-index : tie.Need-add-index Inv-loop μ-loop
 add-index c = omega (arith, c .before .before .before .before .before .before .before .before .before .before .before .before .before .before .before .before .before .before .before .good .0 .0)
 
 pub nobrighi-record-spec : {M : Type 1} → statement M
-nobrighi-record-spec =
-    tie.close
-    (tie.spec
-    Inv-loop
-    μ-loop
+nobrighi-record-spec = tie.close (tie.spec Inv-loop μ-loop
     (λ c κs. tt)  -- start-requires
     (λ c. omega arith)  -- loop-holds
     (λ c κs. tt)  -- free-requires
@@ -30,9 +23,7 @@ nobrighi-record-spec =
     (λ c. omega arith)  -- array-read-number
     (λ c κs. tt)  -- write-record-requires
     add-index
-    (λ c. omega arith)  -- loop-less
-    (λ c. omega arith)  -- loop-again
-    (λ c. omega arith)  -- same-length
+    (λ c. omega arith) (λ c. omega arith) (λ c. omega arith)  -- loop-less, loop-again, same-length
     (λ c. tt)  -- returns
     (λ c. omega arith)  -- same-length-2
     (λ c. tt)  -- returns-2

@@ -1,8 +1,5 @@
 -- `replay::answers` is safe and ends.
-use Prim.Native.{Nat._-_}
-use mathlib.Core.{Path._≡_}
-use borrow.{Author.Needs.needs}
-use lib.{ListN.length}
+use Rattle.model.proofs.Logic.{_-_, _≡_, length, needs}
 use Rattle.replay.proofs.{answers.Statement.statement}
 use Rattle.replay.proofs.answers.Tie as tie
 
@@ -13,18 +10,7 @@ abbrev μ-loop : tie.MeasureT-loop
 μ-loop out₀ answers count at₀ i₀ out at i = length answers - i
 
 pub answers-spec : {M : Type 1} → statement M
-answers-spec =
-    tie.close
-    (tie.spec
-    Inv-loop
-    μ-loop
-    (λ c. search needs)  -- loop-holds
-    (λ c. search needs)  -- shared-slice-read-answer
-    (λ c κs. search needs)  -- answer-requires
-    (λ c. search needs)  -- add-i
-    (λ c. search needs)  -- loop-less
-    (λ c. search needs)  -- loop-again
-    (λ c. search needs)  -- same-length
-    (λ c. search needs)  -- returns
-    (λ c. search needs)  -- same-length-2
+answers-spec = tie.close (tie.spec Inv-loop μ-loop
+    (λ c. search needs) (λ c. search needs) (λ c κs. search needs) (λ c. search needs)  -- loop-holds, shared-slice-read-answer, answer-requires, add-i
+    (λ c. search needs) (λ c. search needs) (λ c. search needs) (λ c. search needs) (λ c. search needs)  -- loop-less, loop-again, same-length, returns, same-length-2
     (λ c. search needs))  -- returns-2

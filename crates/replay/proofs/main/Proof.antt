@@ -1,6 +1,5 @@
 -- `replay::main` is safe and ends.
-use Prim.Native.{Nat._-_}
-use native.Mathlib.{Omega.arith}
+use Rattle.model.proofs.Logic.{_-_, arith}
 use Rattle.replay.proofs.{main.Statement.statement}
 use Rattle.replay.proofs.main.Tie as tie
 
@@ -11,17 +10,12 @@ abbrev μ-loop : tie.MeasureT-loop
 μ-loop count i₀ i = count - i
 
 pub main-spec : {M : Type 1} → statement M
-main-spec =
-    tie.close
-    (tie.spec
-    Inv-loop
-    μ-loop
+main-spec = tie.close (tie.spec Inv-loop μ-loop
     (λ c κs. tt)  -- arg-count-requires
     (λ c. omega arith)  -- slice-aggregate-replay
     (λ c κs. tt)  -- replay-requires
     (λ c. tt)  -- loop-holds
     (λ c κs. tt)  -- replay-argument-requires
-    (λ c. omega arith)  -- add-i
-    (λ c. omega arith)  -- loop-less
+    (λ c. omega arith) (λ c. omega arith)  -- add-i, loop-less
     (λ c. tt)  -- loop-again
     (λ c. tt))  -- returns

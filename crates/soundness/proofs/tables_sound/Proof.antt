@@ -1,11 +1,8 @@
 -- `soundness::tables_sound` meets its contract: each scan's answer decides, or leaves soundness to the scans after it.
-use mathlib.Core.{Bool.Bool, List.List, Path._∙_, Path.sym}
-use native.Mathlib.{Omega.arith}
-use lib.{ListN.take}
-use borrow.{Author.Needs.needs, Author.Tests.not-false, Author.Tests.not-true}
+use Rattle.model.proofs.Logic.{Bool, List, _∙_, arith, needs, not-false, not-true, sym, take}
 use Rattle.model.specs.{Layouts.Layout, Layouts.Sized, declared.records.Declaration.Declaration}
 use Rattle.loops.specs.{Columns.declarationsOf}
-use Rattle.soundness.proofs.{Laws.Entry.Scanned, Laws.Entry.Told, Laws.Entry.counts-fail, Laws.Entry.covers, Laws.Entry.declarations-fail, Laws.Entry.links-fail, Laws.Entry.nodes-fail, tables_sound.Statement.statement}
+use Rattle.soundness.proofs.{Laws.EntryTest.Scanned, Laws.EntryTest.Told, Laws.EntryTest.counts-fail, Laws.EntryTest.covers, Laws.EntryTest.declarations-fail, Laws.EntryTest.links-fail, Laws.EntryTest.nodes-fail, tables_sound.Statement.statement}
 use Rattle.soundness.proofs.tables_sound.Tie as tie
 use Rattle.sizes.specs.{Sizes.DECLARATIONS, Sizes.sizes}
 
@@ -86,15 +83,11 @@ returns-5 c =
     c .covered .ensures _ _ _ (l .ensures .1 t) ∙ sym (covers (sized (s (written u))) (scanned (written u)) (told u) (not-false _ (e .if3 .left)) (l .ensures .0) t)
 
 pub tables-sound-spec : {M : Type 1} → statement M
-tables-sound-spec =
-    tie.close
-    (tie.spec
+tables-sound-spec = tie.close (tie.spec
     (λ c. sym (counts-fail sizes (k (c .before)) (not-true _ (c .if1 .taken))))  -- returns
     (λ c κs. search needs)  -- nodes-ok-requires
     returns-2
-    (λ c κs. search needs)  -- declaration-columns-requires
-    (λ c κs. search needs)  -- owners-issued-requires
-    (λ c κs. search needs)  -- one-owner-requires
+    (λ c κs. search needs) (λ c κs. search needs) (λ c κs. search needs)  -- declaration-columns-requires, owners-issued-requires, one-owner-requires
     returns-3
     (λ c κs. search needs)  -- links-ok-requires
     returns-4

@@ -1,13 +1,9 @@
 -- `kernel::Kernel::begin` meets its contract. In the loop the array holds the links below the count and a live link for each of the first i bindings, then blanks.
-use mathlib.Core.{List.List, List.[], List._++_, List.append-nil, List.map, Option.some, Path._∙_, Path._≡_, Path.ap, Path.sym}
-use Prim.Native.{Nat._+_, Nat._-_, Nat._≤_, Nat.ℕ}
-use native.Mathlib.{Numerals.add-one, Omega.arith}
-use lib.{ListN.getD, ListN.length, ListN.take, Seq.length-take-le}
-use borrow.{Author.Needs.needs, Author.Tests.eqb-false}
+use Rattle.model.proofs.Logic.{List, [], _++_, _+_, _-_, _∙_, _≡_, _≤_, add-one, ap, append-nil, arith, eqb-false, getD, length, length-take-le, map, needs, some, sym, take, ℕ}
 use Rattle.kernel.specs.{Fields.layoutOf, Outcomes.command, Outcomes.outcome, declared.Kernel.Kernel}
 use Rattle.model.specs.{Commands.Command, Commands.tests, Layouts.tablesOf, Lists.padded, Records.blankBinding, Records.blankLink, Records.blankNode, Records.liveLink, Refusals.first, declared.Answer.Answer, declared.Binding.Binding, declared.Error.Error, declared.checks.Row.Row, declared.records.Link.Link, declared.records.Node.Node}
 use Rattle.scans.specs.{declared.TargetBindings.TargetBindings}
-use Rattle.kernel.proofs.{Kernel.begin.Statement.statement, Laws.Outcomes.hands-accepted, Laws.Outcomes.hands-damaged, Laws.Outcomes.hands-refused, Laws.Sized.sized, Laws.Targets.held}
+use Rattle.kernel.proofs.{Kernel.begin.Statement.statement, Laws.Outcomes.hands-accepted, Laws.Outcomes.hands-damaged, Laws.Outcomes.hands-refused, Laws.Lengths.sized, Laws.Targets.held}
 use Rattle.layouts.proofs.{Laws.Nodes.Beginnable, Laws.Nodes.Tested, Laws.Nodes.array-tests, Laws.Nodes.beginnable, Laws.Nodes.is-present, Laws.Nodes.node-refuses, Laws.Nodes.past-unknown, Laws.Nodes.rest, Laws.Nodes.tested-array, Laws.Sound.SoundKernel, Laws.Sound.laid, Laws.Sound.links-laid, Laws.Sound.tested-sound, Laws.Targets.Held, Laws.Targets.begun-laid, Laws.Targets.space-none, Laws.Targets.space-some, Laws.Targets.target-missing, Laws.Targets.target-most, Laws.Targets.target-width}
 use Rattle.loops.proofs.{Laws.Edit.appended-next}
 use Rattle.model.proofs.{Laws.Refusals.of-passed, Laws.Refusals.skip, Laws.Refusals.stop}
@@ -140,28 +136,18 @@ returns-6 c =
     hands-accepted (K (e f)) (Command.begin (id (e f))) row _ (begun-laid (H f) (v .ensures ∙ rw (add-one (node (e f) .generation))) (is-present (P (checked f))) (rw i at (j .inv .1)))
 
 pub begin-spec : {M : Type 1} → statement M
-begin-spec =
-    tie.close
-    (tie.spec
-    Inv-loop
-    μ-loop
+begin-spec = tie.close (tie.spec Inv-loop μ-loop
     (λ c κs. search needs)  -- sound-requires
     returns
     returns-2
-    (λ c. search needs)  -- mul-node
-    (λ c. search needs)  -- array-copy-out-node
-    (λ c κs. search needs)  -- check-begin-requires
-    (λ c. search needs)  -- enum-known-checked
+    (λ c. search needs) (λ c. search needs) (λ c κs. search needs) (λ c. search needs)  -- mul-node, array-copy-out-node, check-begin-requires, enum-known-checked
     returns-3
-    (λ c. search needs)  -- enum-told
-    (λ c κs. search needs)  -- target-table-requires
+    (λ c. search needs) (λ c κs. search needs)  -- enum-told, target-table-requires
     returns-4
     (λ c. omega (arith, laid (K (e (c .before))) .links))  -- sub-if4
     returns-5
     add-started-node
-    (λ c κs. search needs)  -- started-node-requires
-    (λ c. search needs)  -- mul-nodes
-    (λ c. search needs)  -- array-set-from-nodes
+    (λ c κs. search needs) (λ c. search needs) (λ c. search needs)  -- started-node-requires, mul-nodes, array-set-from-nodes
     loop-holds
     (λ c. search needs)  -- mul-b
     (λ c. omega (arith, target-most (H (found (roomy (c .before))))))  -- element-copy-out-b
@@ -169,8 +155,7 @@ begin-spec =
     (λ c. omega (arith, within (turn c)))  -- add-links
     (λ c. search needs)  -- mul-links
     (λ c. omega (arith, within (turn c)))  -- array-set-from-links
-    (λ c. omega arith)  -- add-i
-    (λ c. omega arith)  -- loop-less
+    (λ c. omega arith) (λ c. omega arith)  -- add-i, loop-less
     loop-again
     (λ c. omega (arith, within (c .before)))  -- add-self
     returns-6)

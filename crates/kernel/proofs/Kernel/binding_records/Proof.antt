@@ -1,7 +1,6 @@
 -- `kernel::Kernel::binding_records` meets its contract.
-use mathlib.Core.{Path.sym}
-use borrow.{Author.Needs.needs}
-use Rattle.kernel.proofs.{Kernel.binding_records.Statement.statement, Laws.Observers.asks-sound, Laws.Observers.asks-unsound, Laws.Sized.sized}
+use Rattle.model.proofs.Logic.{needs, sym}
+use Rattle.kernel.proofs.{Kernel.binding_records.Statement.statement, Laws.Observers.asks-sound, Laws.Observers.asks-unsound, Laws.Lengths.sized}
 use Rattle.layouts.proofs.{Laws.Sound.link-count-is, Laws.Sound.tested-sound}
 use Rattle.model.specs.{Observers.bindingRecords}
 use Rattle.kernel.proofs.Kernel.binding_records.Tie as tie
@@ -15,9 +14,7 @@ returns-2 c =
     asks-sound K 0 bindingRecords (sym (link-count-is K))
 
 pub binding-records-spec : {M : Type 1} → statement M
-binding-records-spec =
-    tie.close
-    (tie.spec
+binding-records-spec = tie.close (tie.spec
     (λ c κs. search needs)  -- sound-requires
     returns
     returns-2)

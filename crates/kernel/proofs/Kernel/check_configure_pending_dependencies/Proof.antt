@@ -1,12 +1,8 @@
 -- `kernel::Kernel::check_configure_pending_dependencies` meets its contract.
-use mathlib.Core.{Bool.Bool, Bool.false, Bool.not, Bool.true, List.[], List._++_, List._∷_, Path._∙_, Path._≡_, Path.ap, Path.sym}
-use Prim.Native.{Nat._+_}
-use native.Mathlib.{Omega.arith}
-use lib.{Dec.ltb, ListN.length}
-use borrow.{Author.Needs.needs, Author.Tests.le-ltb, Author.Tests.lt-ltb, Author.Tests.not-true}
+use Rattle.model.proofs.Logic.{Bool, [], _++_, _+_, _∙_, _∷_, _≡_, ap, arith, false, le-ltb, length, lt-ltb, ltb, needs, not, not-true, sym, true}
 use Rattle.kernel.specs.{Fields.layoutOf, Outcomes.answerOf, declared.component.Entry.Entry}
 use Rattle.model.specs.{Interface.configureTests, Interface.listed, Interface.tooLong, Layouts.tablesOf, Refusals.Tests, Refusals.first, Rows.nodeTests, Tables.Tables, Tables.nodeAt, declared.Error.Error, declared.checks.Row.Row}
-use Rattle.kernel.proofs.{Kernel.check_configure_pending_dependencies.Statement.statement, Laws.Sized.list-sized, Laws.Sized.sized}
+use Rattle.kernel.proofs.{Kernel.check_configure_pending_dependencies.Statement.statement, Laws.Lengths.list-sized, Laws.Lengths.sized}
 use Rattle.layouts.specs.{Rows.ofNode}
 use Rattle.layouts.proofs.{Laws.Declarations.Short, Laws.Declarations.length-listed, Laws.Nodes.Tested, Laws.Nodes.node-row, Laws.Nodes.rest, Laws.Nodes.tested, Laws.Rows.refuses-first, Laws.Rows.row-damaged, Laws.Rows.row-passes, Laws.Rows.row-refuses, Laws.Sound.SoundKernel, Laws.Sound.declaration-count-is, Laws.Sound.laid, Laws.Sound.tested-sound}
 use Rattle.model.proofs.{Laws.Refusals.of-passed, Laws.Refusals.skip, Laws.Refusals.stop}
@@ -94,14 +90,11 @@ returns-6 c =
     row-passes (P d .kernel) (row (at (checked d))) (left d _ ∙ skip _ _ _ fits ∙ skip _ _ _ (ap not (sym (c .before .distinct-ports .ensures)) ∙ c .if4 .left) ∙ of-passed [] tt)
 
 pub check-configure-pending-dependencies-spec : {M : Type 1} → statement M
-check-configure-pending-dependencies-spec =
-    tie.close
-    (tie.spec
+check-configure-pending-dependencies-spec = tie.close (tie.spec
     (λ c κs. search needs)  -- entry-requires
     returns
     returns-2
-    (λ c κs. search needs)  -- check-requires
-    (λ c. search needs)  -- enum-known-checked
+    (λ c κs. search needs) (λ c. search needs)  -- check-requires, enum-known-checked
     returns-3
     (λ c. search needs)  -- enum-told
     (λ c. omega (arith, laid (P c .kernel) .declarations))  -- add-if3

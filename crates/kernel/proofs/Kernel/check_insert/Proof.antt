@@ -1,13 +1,9 @@
 -- `kernel::Kernel::check_insert` meets its contract.
-use mathlib.Core.{Bool.Bool, Bool._&&_, Bool._||_, Bool.not, Bool.true, List.[], List._∷_, List.map, Logic.⊎-elim, Option.some, Path._∙_, Path._≡_, Path.ap, Path.sym}
-use Prim.Native.{Nat._+_, Nat._≤_}
-use native.Mathlib.{Omega.arith}
-use lib.{Dec.leb, Dec.ltb, ListN.length}
-use borrow.{Author.Needs.needs, Author.Tests.le-leb, Author.Tests.le-ltb, Author.Tests.lt-leb, Author.Tests.lt-ltb, Author.Tests.not-false, Author.Tests.not-true}
+use Rattle.model.proofs.Logic.{Bool, [], _&&_, _+_, _||_, _∙_, _∷_, _≡_, _≤_, ap, arith, le-leb, le-ltb, leb, length, lt-leb, lt-ltb, ltb, map, needs, not, not-false, not-true, some, sym, true, ⊎-elim}
 use Rattle.layouts.proofs.{Laws.Declarations.Short, Laws.Declarations.both-short, Laws.Declarations.clashes-are, Laws.Declarations.declared-count, Laws.Declarations.no-parent, Laws.Declarations.parent-is, Laws.Rows.row-damaged, Laws.Rows.row-passes, Laws.Rows.row-refuses, Laws.Sound.SoundKernel, Laws.Sound.laid, Laws.Sound.node-count-is, Laws.Sound.tested-sound}
 use Rattle.model.specs.{Sizes.listLimit, Answers.answer, Insertion.checkInsert, Insertion.clashes, Insertion.insertTests, Insertion.parentPresent, Interface.listed, Interface.tooLong, Layouts.tablesOf, Refusals.Reply, Refusals.Tests, Refusals.first, Tables.Tables, declared.Answer.Answer, declared.Error.Error, declared.records.Node.Node}
 use Rattle.scans.specs.{declared.NodeFlags.NodeFlags}
-use Rattle.kernel.proofs.{Kernel.check_insert.Statement.statement, Laws.Rows.insertion-row, Laws.Sized.list-sized, Laws.Sized.sized}
+use Rattle.kernel.proofs.{Kernel.check_insert.Statement.statement, Laws.Rows.insertion-row, Laws.Lengths.list-sized, Laws.Lengths.sized}
 use Rattle.kernel.specs.{Fields.ask, Fields.layoutOf, Outcomes.answerOf}
 use Rattle.model.proofs.{Laws.Refusals.of-passed, Laws.Refusals.skip, Laws.Refusals.stop}
 use Rattle.sizes.specs.{Sizes.DECLARATIONS, Sizes.IDENTITIES, Sizes.sizes}
@@ -132,20 +128,14 @@ returns-7 c =
     row-passes (K (e (q d))) (row (s (e (q d)))) passed ∙ sym (as-row (s (e (q d))))
 
 pub check-insert-spec : {M : Type 1} → statement M
-check-insert-spec =
-    tie.close
-    (tie.spec
+check-insert-spec = tie.close (tie.spec
     (λ c κs. search needs)  -- tables-sound-requires
     returns
     returns-2
     returns-3
-    (λ c κs. search needs)  -- node-flags-requires
-    (λ c. search needs)  -- enum-known-parent
-    (λ c κs. search needs)  -- flag-at-requires
+    (λ c κs. search needs) (λ c. search needs) (λ c κs. search needs)  -- node-flags-requires, enum-known-parent, flag-at-requires
     returns-4
-    (λ c. search needs)  -- enum-told
-    (λ c κs. search needs)  -- check-provisions-requires
-    (λ c κs. search needs)  -- distinct-ports-requires
+    (λ c. search needs) (λ c κs. search needs) (λ c κs. search needs)  -- enum-told, check-provisions-requires, distinct-ports-requires
     returns-5
     (λ c. omega (arith, room (c .before)))  -- add-if6
     (λ c. omega (arith, room (c .before)))  -- add-if6-2

@@ -1,11 +1,8 @@
 -- `kernel::Kernel::check_leave_if_changed` meets its contract.
-use mathlib.Core.{Bool._||_, Bool.not, List.[], Option.none, Option.some, Path._∙_, Path._≡_, Path.ap, Path.sym}
-use Prim.Native.{Nat.ℕ}
-use lib.{ListN.getD}
-use borrow.{Author.Needs.needs, Author.Tests.not-true}
+use Rattle.model.proofs.Logic.{[], _||_, _∙_, _≡_, ap, getD, needs, none, not, not-true, some, sym, ℕ}
 use Rattle.kernel.specs.{Fields.layoutOf, Outcomes.answerOf, declared.Kernel.Kernel}
 use Rattle.model.specs.{Layouts.tablesOf, Lifecycle.leaveIfChangedTests, Lists.isNone, Records.blankNode, Refusals.Tests, Refusals.first, Resolution.target, Tables.Tables, declared.Answer.Answer, declared.Error.Error, declared.checks.Row.Row}
-use Rattle.kernel.proofs.{Kernel.check_leave_if_changed.Statement.statement, Laws.Sized.sized, Laws.Targets.there-is}
+use Rattle.kernel.proofs.{Kernel.check_leave_if_changed.Statement.statement, Laws.Lengths.sized, Laws.Targets.there-is}
 use Rattle.layouts.proofs.{Laws.Nodes.Tested, Laws.Nodes.array-present, Laws.Nodes.node-refuses, Laws.Nodes.past-unknown, Laws.Nodes.rest, Laws.Nodes.tested-array, Laws.Rows.row-damaged, Laws.Rows.row-passes, Laws.Rows.row-refuses, Laws.Sound.SoundKernel, Laws.Sound.tested-sound, Laws.Targets.found, Laws.Targets.target-gone}
 use Rattle.model.proofs.{Laws.Refusals.of-passed, Laws.Refusals.skip, Laws.Refusals.stop}
 use Rattle.sizes.specs.{Sizes.sizes}
@@ -74,18 +71,12 @@ returns-5 : tie.Need-returns-5
 returns-5 c = let f = c .before .before .before in passes (at f) (rest (P f) _ ∙ skip _ _ _ (ap not (gone f) ∙ c .if3 .left) ∙ of-passed [] tt)
 
 pub check-leave-if-changed-spec : {M : Type 1} → statement M
-check-leave-if-changed-spec =
-    tie.close
-    (tie.spec
+check-leave-if-changed-spec = tie.close (tie.spec
     (λ c κs. search needs)  -- sound-requires
     returns
     returns-2
-    (λ c. search needs)  -- mul-node
-    (λ c. search needs)  -- array-copy-out-node
-    (λ c κs. search needs)  -- check-running-requires
-    (λ c. search needs)  -- enum-known-checked
+    (λ c. search needs) (λ c. search needs) (λ c κs. search needs) (λ c. search needs)  -- mul-node, array-copy-out-node, check-running-requires, enum-known-checked
     returns-3
-    (λ c. search needs)  -- enum-told
-    (λ c κs. search needs)  -- target-table-requires
+    (λ c. search needs) (λ c κs. search needs)  -- enum-told, target-table-requires
     returns-4
     returns-5)

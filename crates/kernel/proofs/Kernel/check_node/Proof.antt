@@ -1,8 +1,7 @@
 -- `kernel::Kernel::check_node` meets its contract.
-use mathlib.Core.{Path._∙_, Path.ap, Path.sym}
-use borrow.{Author.Needs.needs, Author.Tests.not-true}
+use Rattle.model.proofs.Logic.{_∙_, ap, needs, not-true, sym}
 use Rattle.kernel.specs.{Fields.layoutOf, declared.component.Entry.Entry}
-use Rattle.kernel.proofs.{Kernel.check_node.Statement.statement, Laws.Sized.sized}
+use Rattle.kernel.proofs.{Kernel.check_node.Statement.statement, Laws.Lengths.sized}
 use Rattle.sizes.specs.{Sizes.sizes}
 use Rattle.layouts.proofs.{Laws.Nodes.node-row, Laws.Rows.row-damaged, Laws.Sound.tested-sound}
 use Rattle.model.specs.{Rows.nodeTests}
@@ -19,9 +18,7 @@ returns-2 c =
     node-row K (nodeTests (a .before .args .row)) (a .before .args .id) (ap (λ (x : Entry). x .node) (a .entry .ensures)) (c .check .ensures)
 
 pub check-node-spec : {M : Type 1} → statement M
-check-node-spec =
-    tie.close
-    (tie.spec
+check-node-spec = tie.close (tie.spec
     (λ c κs. search needs)  -- entry-requires
     returns
     (λ c κs. search needs)  -- check-requires

@@ -1,8 +1,7 @@
 -- `kernel::Kernel::check_release_provision` meets its contract.
-use mathlib.Core.{List.[], Path._∙_, Path.refl, Path.sym}
-use borrow.{Author.Needs.needs}
+use Rattle.model.proofs.Logic.{[], _∙_, needs, refl, sym}
 use Rattle.model.specs.{Interface.releaseProvisionTests, Layouts.tablesOf, Refusals.Tests, Rows.nodeTests, Tables.Tables, declared.checks.Row.Row}
-use Rattle.kernel.proofs.{Kernel.check_release_provision.Statement.statement, Laws.Sized.sized}
+use Rattle.kernel.proofs.{Kernel.check_release_provision.Statement.statement, Laws.Lengths.sized}
 use Rattle.kernel.specs.{Fields.layoutOf}
 use Rattle.layouts.proofs.{Laws.Nodes.Tested, Laws.Nodes.rest, Laws.Nodes.tested, Laws.Rows.refused-row, Laws.Rows.row-passes, Laws.Rows.row-refuses}
 use Rattle.layouts.specs.{Rows.ofNode}
@@ -41,13 +40,9 @@ returns-3 c =
     row-passes (P d .kernel) (row (s d)) (rest (P d) _ ∙ skip _ _ _ (sym (c .before .relies-on .ensures) ∙ c .if1 .left) ∙ of-passed [] tt)
 
 pub check-release-provision-spec : {M : Type 1} → statement M
-check-release-provision-spec =
-    tie.close
-    (tie.spec
-    (λ c κs. search needs)  -- check-node-requires
-    (λ c. search needs)  -- enum-known-checked
+check-release-provision-spec = tie.close (tie.spec
+    (λ c κs. search needs) (λ c. search needs)  -- check-node-requires, enum-known-checked
     returns
-    (λ c. search needs)  -- enum-told
-    (λ c κs. search needs)  -- relies-on-requires
+    (λ c. search needs) (λ c κs. search needs)  -- enum-told, relies-on-requires
     returns-2
     returns-3)

@@ -1,9 +1,7 @@
 -- `kernel::Kernel::check_update` meets its contract.
-use mathlib.Core.{List._++_, Option.Option, Path._∙_, Path._≡_, Path.ap, Path.refl, Path.sym}
-use native.Mathlib.{Omega.arith}
-use borrow.{Author.Needs.needs}
+use Rattle.model.proofs.Logic.{Option, _++_, _∙_, _≡_, ap, arith, needs, refl, sym}
 use Rattle.model.specs.{Answers.answer, Answers.checked, Layouts.tablesOf, Refusals.Reply, Refusals.Tests, Refusals.first, Refusals.orElse, Rows.changedNode, Rows.nodeTests, Tables.Tables, Tables.nodeAt, UpdateNode.updateTests, declared.Error.Error, declared.records.Node.Node}
-use Rattle.kernel.proofs.{Kernel.check_update.Statement.statement, Laws.Sized.sized}
+use Rattle.kernel.proofs.{Kernel.check_update.Statement.statement, Laws.Lengths.sized}
 use Rattle.kernel.specs.{Fields.layoutOf}
 use Rattle.layouts.proofs.{Laws.Nodes.Tested, Laws.Nodes.below, Laws.Nodes.rest, Laws.Nodes.tested, Laws.Rows.refused-row, Laws.Rows.row-is, Laws.Sound.node-is}
 use Rattle.layouts.specs.{Rows.ofNode}
@@ -40,15 +38,11 @@ returns-2 c =
     c .update-node .ensures ∙ sym (ap (λ (o : Option Error). answer (orElse o Reply.done)) left) ∙ row-is (P d .kernel) (row (s d))
 
 pub check-update-spec : {M : Type 1} → statement M
-check-update-spec =
-    tie.close
-    (tie.spec
-    (λ c κs. search needs)  -- check-node-requires
-    (λ c. search needs)  -- enum-known-checked
+check-update-spec = tie.close (tie.spec
+    (λ c κs. search needs) (λ c. search needs)  -- check-node-requires, enum-known-checked
     returns
     (λ c. search needs)  -- enum-told
     (λ c. omega (arith, below (P (c .before))))  -- mul-node
     (λ c. below (P (c .before)))  -- array-copy-out-node
-    (λ c κs. search needs)  -- changed-requires
-    (λ c κs. search needs)  -- update-node-requires
+    (λ c κs. search needs) (λ c κs. search needs)  -- changed-requires, update-node-requires
     returns-2)

@@ -1,10 +1,9 @@
 -- `kernel::Kernel::children` meets its contract.
-use mathlib.Core.{Bool.Bool, List.List, List.[], Path._∙_, Path.ap, Path.refl}
-use borrow.{Author.Needs.needs}
-use Rattle.kernel.proofs.{Kernel.children.Statement.statement, Laws.Observers.asks-sound, Laws.Observers.asks-unsound, Laws.Sized.sized}
+use Rattle.model.proofs.Logic.{Bool, List, [], _∙_, ap, needs, refl}
+use Rattle.kernel.proofs.{Kernel.children.Statement.statement, Laws.Observers.asks-sound, Laws.Observers.asks-unsound, Laws.Lengths.sized}
 use Rattle.layouts.proofs.{Laws.Sound.places-are, Laws.Sound.tested-sound}
 use Rattle.model.specs.{Lists.places, Observers.children, Records.isChildOf}
-use Rattle.scans.specs.{Answers.identities}
+use Rattle.scans.specs.{Results.identities}
 use Rattle.kernel.proofs.Kernel.children.Tie as tie
 
 returns : tie.Need-returns
@@ -24,12 +23,8 @@ returns-2 c =
     c .places-of2 .ensures ∙ ap identities (asks-sound K [] (λ T. children T (s .args .id)) found)
 
 pub children-spec : {M : Type 1} → statement M
-children-spec =
-    tie.close
-    (tie.spec
-    (λ c κs. search needs)  -- sound-requires
-    (λ c κs. search needs)  -- places-of-requires
+children-spec = tie.close (tie.spec
+    (λ c κs. search needs) (λ c κs. search needs)  -- sound-requires, places-of-requires
     returns
-    (λ c κs. search needs)  -- child-flags-requires
-    (λ c κs. search needs)  -- places-of-requires-2
+    (λ c κs. search needs) (λ c κs. search needs)  -- child-flags-requires, places-of-requires-2
     returns-2)

@@ -1,10 +1,9 @@
 -- `kernel::Kernel::committed` meets its contract.
-use mathlib.Core.{List.List, List.[], Path._∙_, Path.ap, Path.refl}
-use borrow.{Author.Needs.needs}
+use Rattle.model.proofs.Logic.{List, [], _∙_, ap, needs, refl}
 use Rattle.model.specs.{Layouts.tablesOf, Lists.keep, Resolution.committed, Tables.Tables, declared.Binding.Binding}
-use Rattle.kernel.proofs.{Kernel.committed.Statement.statement, Laws.Observers.asks-sound, Laws.Observers.asks-unsound, Laws.Sized.sized}
+use Rattle.kernel.proofs.{Kernel.committed.Statement.statement, Laws.Observers.asks-sound, Laws.Observers.asks-unsound, Laws.Lengths.sized}
 use Rattle.layouts.proofs.{Laws.Sound.tested-sound}
-use Rattle.scans.specs.{Answers.committedBindings}
+use Rattle.scans.specs.{Results.committedBindings}
 use Rattle.kernel.proofs.Kernel.committed.Tie as tie
 
 -- what is asked of the tables
@@ -27,11 +26,8 @@ returns-2 c =
     c .committed-in2 .ensures ∙ ap committedBindings (asks-sound K [] (question s) refl)
 
 pub committed-spec : {M : Type 1} → statement M
-committed-spec =
-    tie.close
-    (tie.spec
-    (λ c κs. search needs)  -- sound-requires
-    (λ c κs. search needs)  -- committed-in-requires
+committed-spec = tie.close (tie.spec
+    (λ c κs. search needs) (λ c κs. search needs)  -- sound-requires, committed-in-requires
     returns
     (λ c κs. search needs)  -- committed-in-requires-2
     returns-2)

@@ -1,9 +1,7 @@
 -- `kernel::Kernel::compact_bindings` meets its contract.
-use mathlib.Core.{Bool.not, List.List, List.[], Path.ap}
-use lib.{ListN.take}
-use borrow.{Author.Needs.needs}
+use Rattle.model.proofs.Logic.{List, [], ap, needs, not, take}
 use Rattle.model.specs.{Commands.Command, Layouts.tablesOf, declared.records.Link.Link}
-use Rattle.kernel.proofs.{Kernel.compact_bindings.Statement.statement, Laws.Kept.links-held, Laws.Outcomes.compacts, Laws.Outcomes.compacts-damaged, Laws.Sized.sized}
+use Rattle.kernel.proofs.{Kernel.compact_bindings.Statement.statement, Laws.Edits.links-held, Laws.Outcomes.compacts, Laws.Outcomes.compacts-damaged, Laws.Lengths.sized}
 use Rattle.kernel.specs.{Fields.layoutOf}
 use Rattle.layouts.proofs.{Laws.Anew.kept-fewer, Laws.Anew.kept-gone, Laws.Anew.links-anew, Laws.Rows.accepted-by, Laws.Sound.SoundKernel, Laws.Sound.link-count-is, Laws.Sound.tested-sound}
 use Rattle.model.proofs.{Laws.Refusals.of-passed}
@@ -36,11 +34,8 @@ returns-2 : tie.Need-returns-2
 returns-2 c = compacts-damaged (c .before .before .args .self) Command.compactBindings (c .before .sound .ensures) (c .if1 .left)
 
 pub compact-bindings-spec : {M : Type 1} → statement M
-compact-bindings-spec =
-    tie.close
-    (tie.spec
-    (λ c κs. search needs)  -- sound-requires
-    (λ c κs. search needs)  -- live-links-requires
+compact-bindings-spec = tie.close (tie.spec
+    (λ c κs. search needs) (λ c κs. search needs)  -- sound-requires, live-links-requires
     sub-removed
     returns
     returns-2)

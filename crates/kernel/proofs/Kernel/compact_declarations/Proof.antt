@@ -1,12 +1,9 @@
 -- `kernel::Kernel::compact_declarations` meets its contract.
-use mathlib.Core.{Bool.Bool, Bool.not, List.List, List.[], Path._∙_, Path.ap, Path.refl}
-use Prim.Native.{Nat.ℕ}
-use lib.{ListN.take}
-use borrow.{Author.Needs.needs}
+use Rattle.model.proofs.Logic.{Bool, List, [], _∙_, ap, needs, not, refl, take, ℕ}
 use Rattle.model.specs.{Commands.Command, Layouts.tablesOf, Lists.keep, Records.blankDeclaration, Tables.present, declared.records.Declaration.Declaration}
 use Rattle.scans.specs.{declared.NodeFlags.NodeFlags}
 use Rattle.edits.specs.{Kept.keptDeclarations}
-use Rattle.kernel.proofs.{Kernel.compact_declarations.Statement.statement, Laws.Kept.declarations-held, Laws.Outcomes.compacts, Laws.Outcomes.compacts-damaged, Laws.Sized.sized}
+use Rattle.kernel.proofs.{Kernel.compact_declarations.Statement.statement, Laws.Edits.declarations-held, Laws.Outcomes.compacts, Laws.Outcomes.compacts-damaged, Laws.Lengths.sized}
 use Rattle.kernel.specs.{Fields.layoutOf}
 use Rattle.layouts.proofs.{Laws.Anew.Holds, Laws.Anew.declarations-anew, Laws.Anew.kept-fewer, Laws.Anew.kept-gone, Laws.Rows.accepted-by, Laws.Sound.SoundKernel, Laws.Sound.declaration-count-is, Laws.Sound.nodes-flagged, Laws.Sound.tested-sound}
 use Rattle.model.proofs.{Laws.Refusals.of-passed}
@@ -54,12 +51,8 @@ returns-2 : tie.Need-returns-2
 returns-2 c = compacts-damaged (c .before .before .args .self) Command.compactDeclarations (c .before .sound .ensures) (c .if1 .left)
 
 pub compact-declarations-spec : {M : Type 1} → statement M
-compact-declarations-spec =
-    tie.close
-    (tie.spec
-    (λ c κs. search needs)  -- sound-requires
-    (λ c κs. search needs)  -- node-flags-requires
-    (λ c κs. search needs)  -- kept-declarations-requires
+compact-declarations-spec = tie.close (tie.spec
+    (λ c κs. search needs) (λ c κs. search needs) (λ c κs. search needs)  -- sound-requires, node-flags-requires, kept-declarations-requires
     sub-removed
     returns
     returns-2)

@@ -1,8 +1,7 @@
 -- `kernel::Kernel::configure_pending_dependencies` meets its contract.
-use native.Mathlib.{Omega.arith}
-use borrow.{Author.Needs.needs}
+use Rattle.model.proofs.Logic.{arith, needs}
 use Rattle.edits.specs.{declared.KeptDeclarations.KeptDeclarations}
-use Rattle.kernel.proofs.{Kernel.configure_pending_dependencies.Statement.statement, Laws.Kept.declarations-held, Laws.Outcomes.Answered, Laws.Outcomes.done-as, Laws.Outcomes.done-kernel, Laws.Outcomes.done-tests, Laws.Outcomes.kept, Laws.Sized.list-sized, Laws.Sized.sized}
+use Rattle.kernel.proofs.{Kernel.configure_pending_dependencies.Statement.statement, Laws.Edits.declarations-held, Laws.Outcomes.Answered, Laws.Outcomes.done-as, Laws.Outcomes.done-kernel, Laws.Outcomes.done-tests, Laws.Outcomes.kept, Laws.Lengths.list-sized, Laws.Lengths.sized}
 use Rattle.kernel.specs.{Fields.layoutOf}
 use Rattle.layouts.proofs.{Laws.Anew.HoldsDeclarations, Laws.Anew.holds-padded, Laws.Declarations.Configurable, Laws.Declarations.configurable, Laws.Declarations.configured-fits, Laws.Declarations.configured-laid, Laws.Declarations.others}
 use Rattle.model.specs.{Commands.Command}
@@ -51,12 +50,8 @@ returns-2 : tie.Need-returns-2
 returns-2 c = kept (whole (c .before .before)) (c .enum-told2 .given .1)
 
 pub configure-pending-dependencies-spec : {M : Type 1} → statement M
-configure-pending-dependencies-spec =
-    tie.close
-    (tie.spec
-    (λ c κs. search needs)  -- check-configure-pending-dependencies-requires
-    (λ c. search needs)  -- enum-told
-    (λ c κs. search needs)  -- kept-declarations-requires
+configure-pending-dependencies-spec = tie.close (tie.spec
+    (λ c κs. search needs) (λ c. search needs) (λ c κs. search needs)  -- check-configure-pending-dependencies-requires, enum-told, kept-declarations-requires
     append-ports-requires
     (λ c. let f = c .before .before .before in omega (arith, configured-fits (C (e f)) (s (e f) .args .id) (rest f)))  -- add-self
     (λ c. search needs)  -- enum-told-2

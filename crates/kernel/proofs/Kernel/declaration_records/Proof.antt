@@ -1,7 +1,6 @@
 -- `kernel::Kernel::declaration_records` meets its contract.
-use mathlib.Core.{Path.sym}
-use borrow.{Author.Needs.needs}
-use Rattle.kernel.proofs.{Kernel.declaration_records.Statement.statement, Laws.Observers.asks-sound, Laws.Observers.asks-unsound, Laws.Sized.sized}
+use Rattle.model.proofs.Logic.{needs, sym}
+use Rattle.kernel.proofs.{Kernel.declaration_records.Statement.statement, Laws.Observers.asks-sound, Laws.Observers.asks-unsound, Laws.Lengths.sized}
 use Rattle.layouts.proofs.{Laws.Sound.declaration-count-is, Laws.Sound.tested-sound}
 use Rattle.model.specs.{Observers.declarationRecords}
 use Rattle.kernel.proofs.Kernel.declaration_records.Tie as tie
@@ -15,9 +14,7 @@ returns-2 c =
     asks-sound K 0 declarationRecords (sym (declaration-count-is K))
 
 pub declaration-records-spec : {M : Type 1} → statement M
-declaration-records-spec =
-    tie.close
-    (tie.spec
+declaration-records-spec = tie.close (tie.spec
     (λ c κs. search needs)  -- sound-requires
     returns
     returns-2)

@@ -1,11 +1,9 @@
 -- `kernel::Kernel::declare_provision` meets its contract.
-use mathlib.Core.{Bool.Bool, Bool._&&_, Bool.false, Bool.not, Bool.true, List.[], Path._∙_, Path._≡_, Path.ap, Path.refl}
-use lib.{Dec.leb, ListN.length}
-use borrow.{Author.Needs.needs, Author.Tests.le-leb, Author.Tests.lt-leb, Author.Tests.not-false, Author.Tests.not-true}
+use Rattle.model.proofs.Logic.{Bool, [], _&&_, _∙_, _≡_, ap, false, le-leb, leb, length, lt-leb, needs, not, not-false, not-true, refl, true}
 use Rattle.layouts.proofs.{Laws.Declarations.declared-before, Laws.Declarations.declared-now, Laws.Declarations.own-is, Laws.Declarations.taken-is, Laws.Nodes.Tested, Laws.Nodes.rest, Laws.Nodes.tested, Laws.Sound.declaration-count-is}
 use Rattle.model.specs.{Commands.Command, Interface.own, Interface.taken, Layouts.tablesOf, Rows.nodeTests, Tables.Tables, declared.checks.Row.Row}
 use Rattle.scans.specs.{declared.NodeFlags.NodeFlags}
-use Rattle.kernel.proofs.{Kernel.declare_provision.Statement.statement, Laws.Outcomes.answered, Laws.Outcomes.hands-accepted, Laws.Outcomes.hands-refusal, Laws.Outcomes.hands-refused, Laws.Sized.sized}
+use Rattle.kernel.proofs.{Kernel.declare_provision.Statement.statement, Laws.Outcomes.answered, Laws.Outcomes.hands-accepted, Laws.Outcomes.hands-refusal, Laws.Outcomes.hands-refused, Laws.Lengths.sized}
 use Rattle.kernel.specs.{Fields.layoutOf}
 use Rattle.layouts.specs.{Rows.ofNode}
 use Rattle.model.proofs.{Laws.Refusals.of-passed, Laws.Refusals.skip, Laws.Refusals.stop}
@@ -94,19 +92,10 @@ returns-5 c =
     answered r (hands-refusal (sized (s .args .self) (s .good .0, tt)) (command s) (ofNode (nodeTests Row.Declare) (s .args .id)) _ refl (a .check-node .ensures) r)
 
 pub declare-provision-spec : {M : Type 1} → statement M
-declare-provision-spec =
-    tie.close
-    (tie.spec
-    (λ c κs. search needs)  -- check-node-requires
-    (λ c. search needs)  -- enum-told
-    (λ c κs. search needs)  -- declares-in-requires
-    (λ c κs. search needs)  -- node-flags-requires
-    (λ c κs. search needs)  -- taken-in-requires
-    (λ c κs. search needs)  -- provision-requires
-    (λ c. search needs)  -- mul-declarations
-    (λ c. search needs)  -- array-set-from-declarations
-    (λ c. search needs)  -- add-self
-    (λ c. search needs)  -- enum-told-2
+declare-provision-spec = tie.close (tie.spec
+    (λ c κs. search needs) (λ c. search needs) (λ c κs. search needs) (λ c κs. search needs)  -- check-node-requires, enum-told, declares-in-requires, node-flags-requires
+    (λ c κs. search needs) (λ c κs. search needs) (λ c. search needs)  -- taken-in-requires, provision-requires, mul-declarations
+    (λ c. search needs) (λ c. search needs) (λ c. search needs)  -- array-set-from-declarations, add-self, enum-told-2
     returns
     returns-2
     returns-3

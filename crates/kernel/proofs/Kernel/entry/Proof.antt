@@ -1,12 +1,10 @@
 -- `kernel::Kernel::entry` meets its contract.
-use mathlib.Core.{Bool.Bool, Bool.true, Path._∙_, Path._≡_, Path.sym}
-use borrow.{Author.Needs.needs, Author.Tests.not-true}
+use Rattle.model.proofs.Logic.{Bool, _∙_, _≡_, needs, not-true, sym, true, ℕ}
 use Rattle.kernel.specs.{Fields.ask, Fields.isSound, Fields.layoutOf, Outcomes.entryOf, declared.Kernel.Kernel}
 use Rattle.model.specs.{Layouts.tablesOf, Records.blankNode, Tables.nodeAt, declared.records.Node.Node}
-use Rattle.kernel.proofs.{Kernel.entry.Statement.statement, Laws.Sized.sized}
+use Rattle.kernel.proofs.{Kernel.entry.Statement.statement, Laws.Lengths.sized}
 use Rattle.layouts.proofs.{Laws.Sound.SoundKernel, Laws.Sound.ask-sound, Laws.Sound.node-is, Laws.Sound.node-past, Laws.Sound.tested-sound}
 use Rattle.model.proofs.{Theorems.Kernels.asked-unsound}
-use Prim.Native.{Nat.ℕ}
 use Rattle.sizes.specs.{Sizes.sizes}
 use Rattle.kernel.proofs.Kernel.entry.Tie as tie
 
@@ -41,13 +39,9 @@ returns-3 : tie.Need-returns-3
 returns-3 c = let e = c .before .before .before in found e (node-is (K e) (s e .args .id))
 
 pub entry-spec : {M : Type 1} → statement M
-entry-spec =
-    tie.close
-    (tie.spec
-    (λ c κs. search needs)  -- blank-node-requires
-    (λ c κs. search needs)  -- sound-requires
+entry-spec = tie.close (tie.spec
+    (λ c κs. search needs) (λ c κs. search needs)  -- blank-node-requires, sound-requires
     returns
     returns-2
-    (λ c. search needs)  -- mul-node
-    (λ c. search needs)  -- array-copy-out-node
+    (λ c. search needs) (λ c. search needs)  -- mul-node, array-copy-out-node
     returns-3)

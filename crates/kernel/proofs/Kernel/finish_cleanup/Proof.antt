@@ -1,10 +1,8 @@
 -- `kernel::Kernel::finish_cleanup` meets its contract.
-use mathlib.Core.{Bool.true, Path._∙_, Path._≡_, Path.refl, Path.sym}
-use Prim.Native.{Nat.ℕ}
-use borrow.{Author.Needs.needs}
+use Rattle.model.proofs.Logic.{_∙_, _≡_, needs, refl, sym, true, ℕ}
 use Rattle.kernel.specs.{Fields.layoutOf, declared.Kernel.Kernel}
 use Rattle.model.specs.{Commands.Command, Layouts.tablesOf, Records.deadFor, Records.restoredNode, Tables.present}
-use Rattle.kernel.proofs.{Kernel.finish_cleanup.Statement.statement, Laws.Outcomes.Answered, Laws.Outcomes.done-as, Laws.Outcomes.done-below, Laws.Outcomes.done-kernel, Laws.Outcomes.done-present, Laws.Outcomes.kept, Laws.Sized.sized}
+use Rattle.kernel.proofs.{Kernel.finish_cleanup.Statement.statement, Laws.Outcomes.Answered, Laws.Outcomes.done-as, Laws.Outcomes.done-below, Laws.Outcomes.done-kernel, Laws.Outcomes.done-present, Laws.Outcomes.kept, Laws.Lengths.sized}
 use Rattle.layouts.proofs.{Laws.Anew.HoldsLinks, Laws.Anew.links-changed, Laws.Nodes.node-and-links, Laws.Sound.SoundKernel}
 use Rattle.sizes.specs.{Sizes.sizes}
 use Rattle.kernel.proofs.Kernel.finish_cleanup.Tie as tie
@@ -45,12 +43,8 @@ returns-2 : tie.Need-returns-2
 returns-2 c = kept (whole (c .before .before)) (c .enum-told2 .given .1)
 
 pub finish-cleanup-spec : {M : Type 1} → statement M
-finish-cleanup-spec =
-    tie.close
-    (tie.spec
-    (λ c κs. search needs)  -- check-node-requires
-    (λ c. search needs)  -- enum-told
-    (λ c κs. search needs)  -- dead-links-requires
+finish-cleanup-spec = tie.close (tie.spec
+    (λ c κs. search needs) (λ c. search needs) (λ c κs. search needs)  -- check-node-requires, enum-told, dead-links-requires
     change-requires
     (λ c. search needs)  -- enum-told-2
     returns

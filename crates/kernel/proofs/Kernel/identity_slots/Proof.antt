@@ -1,7 +1,6 @@
 -- `kernel::Kernel::identity_slots` meets its contract.
-use mathlib.Core.{Path.sym}
-use borrow.{Author.Needs.needs}
-use Rattle.kernel.proofs.{Kernel.identity_slots.Statement.statement, Laws.Observers.asks-sound, Laws.Observers.asks-unsound, Laws.Sized.sized}
+use Rattle.model.proofs.Logic.{needs, sym}
+use Rattle.kernel.proofs.{Kernel.identity_slots.Statement.statement, Laws.Observers.asks-sound, Laws.Observers.asks-unsound, Laws.Lengths.sized}
 use Rattle.layouts.proofs.{Laws.Sound.node-count-is, Laws.Sound.tested-sound}
 use Rattle.model.specs.{Observers.identitySlots}
 use Rattle.kernel.proofs.Kernel.identity_slots.Tie as tie
@@ -15,9 +14,7 @@ returns-2 c =
     asks-sound K 0 identitySlots (sym (node-count-is K))
 
 pub identity-slots-spec : {M : Type 1} → statement M
-identity-slots-spec =
-    tie.close
-    (tie.spec
+identity-slots-spec = tie.close (tie.spec
     (λ c κs. search needs)  -- sound-requires
     returns
     returns-2)

@@ -1,8 +1,7 @@
 -- `kernel::Kernel::ids` meets its contract.
-use mathlib.Core.{List.[], Path._∙_, Path.ap, Path.refl}
-use borrow.{Author.Needs.needs}
-use Rattle.scans.specs.{Answers.identities, declared.NodeFlags.NodeFlags}
-use Rattle.kernel.proofs.{Kernel.ids.Statement.statement, Laws.Observers.asks-sound, Laws.Observers.asks-unsound, Laws.Sized.sized}
+use Rattle.model.proofs.Logic.{[], _∙_, ap, needs, refl}
+use Rattle.scans.specs.{Results.identities, declared.NodeFlags.NodeFlags}
+use Rattle.kernel.proofs.{Kernel.ids.Statement.statement, Laws.Observers.asks-sound, Laws.Observers.asks-unsound, Laws.Lengths.sized}
 use Rattle.layouts.proofs.{Laws.Sound.places-are, Laws.Sound.tested-sound}
 use Rattle.model.specs.{Lists.places, Observers.ids}
 use Rattle.kernel.proofs.Kernel.ids.Tie as tie
@@ -21,12 +20,8 @@ returns-2 c =
     c .places-of2 .ensures ∙ ap identities (asks-sound K [] ids found)
 
 pub ids-spec : {M : Type 1} → statement M
-ids-spec =
-    tie.close
-    (tie.spec
-    (λ c κs. search needs)  -- sound-requires
-    (λ c κs. search needs)  -- places-of-requires
+ids-spec = tie.close (tie.spec
+    (λ c κs. search needs) (λ c κs. search needs)  -- sound-requires, places-of-requires
     returns
-    (λ c κs. search needs)  -- node-flags-requires
-    (λ c κs. search needs)  -- places-of-requires-2
+    (λ c κs. search needs) (λ c κs. search needs)  -- node-flags-requires, places-of-requires-2
     returns-2)

@@ -1,9 +1,7 @@
 -- `kernel::Kernel::insert` meets its contract: what check_insert answers decides it.
-use mathlib.Core.{Path._∙_, Path._≡_, Path.ap, Path.refl, Path.sym}
-use native.Mathlib.{Omega.arith}
-use borrow.{Author.Needs.needs}
+use Rattle.model.proofs.Logic.{_∙_, _≡_, ap, arith, needs, refl, sym}
 use Rattle.kernel.specs.{Fields.layoutOf, Outcomes.answerOf, Outcomes.insertOutcome, declared.Kernel.Kernel}
-use Rattle.kernel.proofs.{Kernel.insert.Statement.statement, Laws.Outcomes.inserts, Laws.Rows.insertion-row, Laws.Sized.list-sized, Laws.Sized.sized}
+use Rattle.kernel.proofs.{Kernel.insert.Statement.statement, Laws.Outcomes.inserts, Laws.Rows.insertion-row, Laws.Lengths.list-sized, Laws.Lengths.sized}
 use Rattle.layouts.proofs.{Laws.Declarations.Insertable, Laws.Declarations.insertable, Laws.Declarations.inserted-laid, Laws.Declarations.more-padded, Laws.Rows.done-row, Laws.Rows.done-sound, Laws.Rows.refused-whole, Laws.Sound.declarations-laid}
 use Rattle.model.proofs.{Laws.Refusals.Passed}
 use Rattle.model.specs.{Commands.Command, Insertion.insertTests, Layouts.Sized, Layouts.tablesOf, Refusals.Tests, Tables.Tables}
@@ -69,11 +67,8 @@ returns-2 c =
     inserts (i .kernel) (o .parent) (o .dependencies) (o .provisions) (passed d) _ laid
 
 pub insert-spec : {M : Type 1} → statement M
-insert-spec =
-    tie.close
-    (tie.spec
-    (λ c κs. search needs)  -- check-insert-requires
-    (λ c. search needs)  -- enum-known-checked
+insert-spec = tie.close (tie.spec
+    (λ c κs. search needs) (λ c. search needs)  -- check-insert-requires, enum-known-checked
     returns
     (λ c. search needs)  -- enum-told
     append-ports-requires

@@ -1,6 +1,5 @@
 -- `kernel::Kernel::new` meets its contract: three blank tables are the empty tables laid out.
-use lib.{ListN.replicate}
-use borrow.{Author.Needs.needs}
+use Rattle.model.proofs.Logic.{needs, replicate}
 use Rattle.model.specs.{Layouts.layOut, Lists.padded}
 use Rattle.sizes.specs.{Sizes.DECLARATIONS, Sizes.IDENTITIES, Sizes.LINKS}
 use Rattle.kernel.proofs.{Kernel.new.Statement.statement}
@@ -15,10 +14,6 @@ returns c =
     λ i. record { nodes = replicate IDENTITIES (n i); «node_count» = 0; declarations = replicate DECLARATIONS (d i); «declaration_count» = 0; links = replicate LINKS (l i); «link_count» = 0 }
 
 pub new-spec : {M : Type 1} → statement M
-new-spec =
-    tie.close
-    (tie.spec
-    (λ c κs. search needs)  -- blank-node-requires
-    (λ c κs. search needs)  -- blank-declaration-requires
-    (λ c κs. search needs)  -- blank-link-requires
+new-spec = tie.close (tie.spec
+    (λ c κs. search needs) (λ c κs. search needs) (λ c κs. search needs)  -- blank-node-requires, blank-declaration-requires, blank-link-requires
     returns)

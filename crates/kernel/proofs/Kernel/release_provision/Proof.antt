@@ -1,6 +1,6 @@
 -- `kernel::Kernel::release_provision` meets its contract.
-use borrow.{Author.Needs.needs}
-use Rattle.kernel.proofs.{Kernel.release_provision.Statement.statement, Laws.Kept.declarations-held, Laws.Outcomes.Answered, Laws.Outcomes.done-as, Laws.Outcomes.done-kernel, Laws.Outcomes.kept, Laws.Sized.sized}
+use Rattle.model.proofs.Logic.{needs}
+use Rattle.kernel.proofs.{Kernel.release_provision.Statement.statement, Laws.Edits.declarations-held, Laws.Outcomes.Answered, Laws.Outcomes.done-as, Laws.Outcomes.done-kernel, Laws.Outcomes.kept, Laws.Lengths.sized}
 use Rattle.model.specs.{Commands.Command, Layouts.tablesOf}
 use Rattle.layouts.proofs.{Laws.Anew.declarations-anew}
 use Rattle.kernel.proofs.Kernel.release_provision.Tie as tie
@@ -22,12 +22,8 @@ returns-2 : tie.Need-returns-2
 returns-2 c = kept (whole (c .before .before)) (c .enum-told2 .given .1)
 
 pub release-provision-spec : {M : Type 1} → statement M
-release-provision-spec =
-    tie.close
-    (tie.spec
-    (λ c κs. search needs)  -- check-release-provision-requires
-    (λ c. search needs)  -- enum-told
-    (λ c κs. search needs)  -- kept-declarations-requires
+release-provision-spec = tie.close (tie.spec
+    (λ c κs. search needs) (λ c. search needs) (λ c κs. search needs)  -- check-release-provision-requires, enum-told, kept-declarations-requires
     (λ c. search needs)  -- enum-told-2
     returns
     returns-2)

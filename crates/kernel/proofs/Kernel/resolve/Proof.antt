@@ -1,9 +1,6 @@
 -- `kernel::Kernel::resolve` meets its contract.
-use mathlib.Core.{Bool.Bool, Option.Option, Option.none, Path._∙_, Path.ap, Path.refl}
-use Prim.Native.{Nat.ℕ}
-use lib.{ListN.take}
-use borrow.{Author.Needs.needs}
-use Rattle.kernel.proofs.{Kernel.resolve.Statement.statement, Laws.Observers.asks-sound, Laws.Observers.asks-unsound, Laws.Sized.sized}
+use Rattle.model.proofs.Logic.{Bool, Option, _∙_, ap, needs, none, refl, take, ℕ}
+use Rattle.kernel.proofs.{Kernel.resolve.Statement.statement, Laws.Observers.asks-sound, Laws.Observers.asks-unsound, Laws.Lengths.sized}
 use Rattle.layouts.proofs.{Laws.Sound.nodes-flagged, Laws.Sound.tested-sound}
 use Rattle.model.specs.{Answers.resolution, Layouts.tablesOf, Records.isProviding, Resolution.resolve, Tables.Tables, Tables.providing}
 use Rattle.kernel.proofs.Kernel.resolve.Tie as tie
@@ -26,9 +23,7 @@ returns-2 c =
     c .resolve-table .ensures ∙ ap resolution (asks-sound K none (question s) seen)
 
 pub resolve-spec : {M : Type 1} → statement M
-resolve-spec =
-    tie.close
-    (tie.spec
+resolve-spec = tie.close (tie.spec
     (λ c κs. search needs)  -- sound-requires
     returns
     (λ c κs. search needs)  -- resolve-table-requires

@@ -1,11 +1,10 @@
 -- `kernel::Kernel::target` meets its contract.
-use mathlib.Core.{Bool.Bool, Path._∙_, Path._≡_, Path.ap, Path.sym}
-use borrow.{Author.Needs.needs}
+use Rattle.model.proofs.Logic.{Bool, _∙_, _≡_, ap, needs, sym}
 use Rattle.kernel.specs.{Fields.ask, Fields.layoutOf, declared.component.Entry.Entry}
-use Rattle.kernel.proofs.{Kernel.target.Statement.statement, Laws.Sized.sized}
+use Rattle.kernel.proofs.{Kernel.target.Statement.statement, Laws.Lengths.sized}
 use Rattle.layouts.proofs.{Laws.Targets.asks-target, Laws.Targets.isUntargeted, Laws.Targets.no-target, Laws.Targets.targeted-sound}
 use Rattle.model.specs.{Layouts.Layout, Records.blankNode, Tables.nodeAt}
-use Rattle.scans.specs.{Answers.targetBindings}
+use Rattle.scans.specs.{Results.targetBindings}
 use Rattle.sizes.specs.{Sizes.sizes}
 use Rattle.kernel.proofs.Kernel.target.Tie as tie
 
@@ -36,11 +35,8 @@ returns-2 c =
     c .target-table .ensures ∙ ap targetBindings (asks-target sizes (l n) (s n .args .id) K h)
 
 pub target-spec : {M : Type 1} → statement M
-target-spec =
-    tie.close
-    (tie.spec
-    (λ c κs. search needs)  -- entry-requires
-    (λ c κs. search needs)  -- no-target-requires
+target-spec = tie.close (tie.spec
+    (λ c κs. search needs) (λ c κs. search needs)  -- entry-requires, no-target-requires
     returns
     (λ c κs. search needs)  -- target-table-requires
     returns-2)

@@ -1,11 +1,7 @@
 -- When a command is accepted, in the words of the original's contracts.
-use mathlib.Core.{Bool.Bool, Bool._&&_, Bool._||_, Bool.false, Bool.not, Bool.true, List.List·Memᴰ, List.[], List._∷_, Logic._↔_, Logic._⊎_, Logic.inl, Logic.inr, Option.Option, Option.none, Option.some, Path._∙_, Path._≡_, Path.ap, Path.refl, Path.sym}
-use Prim.Native.{Nat._+_, Nat._<_, Nat._≤_, Nat.ℕ}
-use native.Mathlib.{Omega.arith}
-use lib.{Dec.eqb, ListN.length}
-use borrow.{Author.Tests.eq-eqb, Author.Tests.eqb-true, Author.Tests.le-ltb, Author.Tests.leb-false, Author.Tests.leb-true, Author.Tests.ltb-false}
+use Rattle.model.proofs.Logic.{Bool, List·Memᴰ, Option, [], _&&_, _+_, _<_, _||_, _↔_, _∙_, _∷_, _≡_, _≤_, _⊎_, ap, arith, eq-eqb, eqb, eqb-true, false, inl, inr, le-ltb, leb-false, leb-true, length, ltb-false, none, not, refl, some, sym, true, ℕ}
 use Rattle.model.specs.{Commands.Command, Commands.settle, Commands.step, Insertion.checkInsert, Insertion.insertTests, Insertion.inserted, Insertion.parentPresent, Interface.distinct, Interface.listed, Interface.taken, Interface.tooLong, Lifecycle.beginCleanupTests, Lifecycle.checkIteration, Lifecycle.finishCleanupTests, Lifecycle.finished, Lifecycle.iterationTests, Lifecycle.leaveIfChangedTests, Lifecycle.leaveTests, Lifecycle.phaseAt, Lifecycle.relies, Lifecycle.removeTests, Lists.all, Lists.any, Lists.isNone, Observers.cleanupStarted, Records.hasParent, Records.isChildOf, Records.isInactive, Records.isLoading, Records.isRunning, Records.isUnloading, Records.parentIn, Records.providerIn, Refusals.Reply, Refusals.accepted, Refusals.first, Refusals.orElse, Resolution.target, Sizes.Sizes, Sizes.listLimit, Soundness.sound, Tables.Tables, Tables.nodeAt, Tables.present, declared.Error.Error, declared.Parent.Parent, declared.Port.Port, declared.PortList.PortList, declared.records.Link.Link, declared.records.Node.Node}
-use Rattle.model.proofs.{Laws.Booleans.and-i, Laws.Booleans.and-l, Laws.Booleans.and-r, Laws.Booleans.clash, Laws.Booleans.not-f, Laws.Booleans.not-t, Laws.Booleans.or-f-l, Laws.Booleans.or-f-r, Laws.Entry.refuted, Laws.Lists.any-in, Laws.Lists.in-at, Laws.Lists.none-in, Laws.Phases.loading-running, Laws.Phases.running-installed, Laws.Refusals.Passed, Laws.Refusals.skip, Laws.Refusals.step-cases, Theorems.Points.at-node, Theorems.UpdateNode.no-child, Theorems.Upstream.Frames.bindings-kept, Theorems.Upstream.Observed.Coherent, Theorems.Upstream.Observed.coherent-target, Theorems.Upstream.Replies.accepts, Theorems.Upstream.Replies.never-refused-with}
+use Rattle.model.proofs.{Laws.Booleans.and-i, Laws.Booleans.and-l, Laws.Booleans.and-r, Laws.Booleans.clash, Laws.Booleans.not-f, Laws.Booleans.not-t, Laws.Booleans.or-f-l, Laws.Booleans.or-f-r, Laws.Pieces.refuted, Laws.Lists.any-in, Laws.Lists.in-at, Laws.Lists.none-in, Laws.Phases.loading-running, Laws.Phases.running-installed, Laws.Refusals.Passed, Laws.Refusals.skip, Laws.Refusals.step-cases, Theorems.Points.at-node, Theorems.UpdateNode.no-child, Theorems.Upstream.Frames.bindings-kept, Theorems.Upstream.Observed.Coherent, Theorems.Upstream.Observed.coherent-target, Theorems.Upstream.Replies.accepts, Theorems.Upstream.Replies.never-refused-with}
 
 -- ---- retire, leave, leave_if_changed
 

@@ -1,8 +1,5 @@
 -- begin: when it is accepted, and that the component is then coherent, with what target gave committed.
-use mathlib.Core.{Bool.false, Bool.not, Bool.true, List.List, List.List·Memᴰ, List.List·Memᴰ·append-cases, List.Memᴰ·append-right, List.map, Logic._↔_, Logic._⊎_, Logic.inl, Logic.inr, Option.some, Path._∙_, Path._≡_, Path.ap, Path.refl, Path.subst, Path.sym}
-use Prim.Native.{Nat._+_, Nat._≤_, Nat.ℕ}
-use lib.{ListN.length}
-use borrow.{Author.Tests.eqb-false, Author.Tests.le-ltb, Author.Tests.ltb-false, Author.Tests.ne-eqb}
+use Rattle.model.proofs.Logic.{List, List·Memᴰ, List·Memᴰ·append-cases, Memᴰ·append-right, _+_, _↔_, _∙_, _≡_, _≤_, _⊎_, ap, eqb-false, false, inl, inr, le-ltb, length, ltb-false, map, ne-eqb, not, refl, some, subst, sym, true, ℕ}
 use Rattle.model.specs.{Commands.Command, Commands.step, Lifecycle.beginTests, Lifecycle.begunNode, Lifecycle.begunWith, Lifecycle.bindings, Lifecycle.phaseAt, Records.bindingIn, Records.consumerIn, Records.isInactive, Records.isLoading, Records.liveLink, Refusals.accepted, Resolution.Provides, Resolution.committed, Resolution.target, Sizes.Sizes, Sizes.lastGeneration, Soundness.sound, Tables.Tables, Tables.nodeAt, Tables.notInactive, Tables.present, declared.Binding.Binding, declared.Port.Port, declared.records.Link.Link, declared.records.Node.Node}
 use Rattle.model.proofs.{Laws.Booleans.clash, Laws.Booleans.not-f, Laws.Committed.committed-append, Laws.Committed.committed-idle, Laws.Committed.fresh-mine, Laws.Facts.facts, Laws.Lists.in-map, Laws.Lists.is-some, Laws.Lists.map-in, Laws.Nodes.present-lt, Laws.Refusals.Passed, Theorems.Commands.step-sound, Theorems.Points.at-node, Theorems.Points.node-at, Theorems.Upstream.Frames.declarations-kept, Theorems.Upstream.Frames.others-kept, Theorems.Upstream.Frames.subject-after, Theorems.Upstream.Observed.Available, Theorems.Upstream.Observed.BindingIsTarget, Theorems.Upstream.Observed.Coherent, Theorems.Upstream.Observed.CommittedFrom, Theorems.Upstream.Observed.CompleteTarget, Theorems.Upstream.Observed.coherent-target, Theorems.Upstream.Observed.complete-target, Theorems.Upstream.Observed.target-available, Theorems.Upstream.Replies.accepted-step, Theorems.Upstream.Replies.accepts}
 

@@ -1,11 +1,7 @@
 -- Declarations and links after a command: what an interface command adds and drops, what finish_cleanup and the compactions leave.
-use mathlib.Core.{Bool.Bool, Bool._&&_, Bool._||_, Bool.cond, Bool.false, Bool.not, Bool.true, List.List, List.List·Memᴰ, List.List·Memᴰ·append-cases, List.List·Memᴰ·eq-of-singleton, List.List·Memᴰ·head, List.Memᴰ·append-left, List.Memᴰ·append-right, List.Memᴰ·cast, List.[], List._++_, List._∷_, List.map, Logic._↔_, Logic._⊎_, Logic.inl, Logic.inr, Path._∙_, Path._≡_, Path.ap, Path.refl, Path.sym}
-use Prim.Native.{Nat._+_, Nat.ℕ}
-use native.Mathlib.{Omega.arith}
-use lib.{Dec.eqb, ListN.length}
-use borrow.{Author.Tests.eq-eqb}
+use Rattle.model.proofs.Logic.{Bool, List, List·Memᴰ, List·Memᴰ·append-cases, List·Memᴰ·eq-of-singleton, List·Memᴰ·head, Memᴰ·append-left, Memᴰ·append-right, Memᴰ·cast, [], _&&_, _++_, _+_, _||_, _↔_, _∙_, _∷_, _≡_, _⊎_, ap, arith, cond, eq-eqb, eqb, false, inl, inr, length, map, not, refl, sym, true, ℕ}
 use Rattle.model.specs.{Commands.Command, Commands.step, Commands.tests, Compaction.bindingsCompacted, Compaction.bindingsRemoved, Compaction.declarationsCompacted, Compaction.declarationsRemoved, Insertion.newDeclarations, Interface.listed, Interface.own, Interface.reliesOn, Lifecycle.phaseAt, Lists.keep, Observers.bindingRecords, Observers.declarationRecords, Observers.provisionReserved, Records.consumerIn, Records.deadFor, Records.declaredPort, Records.dependency, Records.isInactive, Records.isLive, Records.isRunning, Records.isUnloading, Records.ownerIn, Records.portIn, Records.providerIn, Records.provision, Refusals.Reply, Refusals.accepted, Resolution.committed, Resolution.isDependencyOf, Sizes.Sizes, Soundness.declares, Soundness.isDeclaration, Tables.Tables, Tables.nodeAt, Tables.present, declared.Parent.Parent, declared.Phase.Phase, declared.Port.Port, declared.PortList.PortList, declared.records.Declaration.Declaration, declared.records.Link.Link}
-use Rattle.model.proofs.{Laws.Booleans.and-i, Laws.Booleans.and-l, Laws.Booleans.clash, Laws.Booleans.f-not, Laws.Booleans.not-f, Laws.Booleans.not-t, Laws.Committed.committed-compact, Laws.Committed.committed-dead, Laws.Entry.refuted, Laws.Facts.declaration-passes, Laws.Facts.declares-in, Laws.Facts.in-declares, Laws.Facts.is-declaration, Laws.Facts.port-same, Laws.Lists.in-keep, Laws.Lists.in-map, Laws.Lists.keep-in, Laws.Lists.length-keep, Laws.Lists.map-in, Laws.Lists.none-in, Laws.Live.any-kept, Laws.Refusals.Passed, Laws.Refusals.step-keeps, Theorems.FinishCleanup.dead-live, Theorems.Upstream.Replies.accepted-step, Theorems.Upstream.Replies.accepts}
+use Rattle.model.proofs.{Laws.Booleans.and-i, Laws.Booleans.and-l, Laws.Booleans.clash, Laws.Booleans.f-not, Laws.Booleans.not-f, Laws.Booleans.not-t, Laws.Committed.committed-compact, Laws.Committed.committed-dead, Laws.Pieces.refuted, Laws.Facts.declaration-passes, Laws.Facts.declares-in, Laws.Facts.in-declares, Laws.Facts.is-declaration, Laws.Facts.port-same, Laws.Lists.in-keep, Laws.Lists.in-map, Laws.Lists.keep-in, Laws.Lists.length-keep, Laws.Lists.map-in, Laws.Lists.none-in, Laws.Live.any-kept, Laws.Refusals.Passed, Laws.Refusals.step-keeps, Theorems.FinishCleanup.dead-live, Theorems.Upstream.Replies.accepted-step, Theorems.Upstream.Replies.accepts}
 
 -- ---- declare_provision
 

@@ -1,9 +1,5 @@
 -- The refusals of check_insert: 9, 1 and 5 exactly where the row puts them.
-use mathlib.Core.{Bool.Bool, Bool._||_, Bool.false, Bool.not, Bool.true, List.[], List._∷_, Logic._↔_, Logic._⊎_, Logic.inl, Logic.inr, Option.Option, Option.none, Option.some, Path._≡_, Path.ap, Path.refl}
-use Prim.Native.{Nat._+_, Nat.ℕ}
-use native.Mathlib.{Omega.arith}
-use lib.{Dec.eqb, Dec.leb, Dec.ltb, ListN.length}
-use borrow.{Author.Tests.eq-eqb}
+use Rattle.model.proofs.Logic.{Bool, Option, [], _+_, _||_, _↔_, _∷_, _≡_, _⊎_, ap, arith, eq-eqb, eqb, false, inl, inr, leb, length, ltb, none, not, refl, some, true, ℕ}
 use Rattle.model.specs.{Insertion.checkInsert, Insertion.clashes, Insertion.insertTests, Insertion.parentPresent, Interface.listed, Interface.tooLong, Refusals.Reply, Refusals.Tests, Refusals.first, Refusals.number, Refusals.orElse, Sizes.Sizes, Tables.Tables, declared.Error.Error, declared.Parent.Parent, declared.PortList.PortList}
 use Rattle.model.proofs.{Laws.Booleans.clash}
 

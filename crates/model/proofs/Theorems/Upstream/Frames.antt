@@ -1,8 +1,5 @@
 -- What an accepted command keeps: the tables that it does not write, every node but its subject's, generations and restoring.
-use mathlib.Core.{Bool.Bool, Bool.false, Bool.true, List.[], List._∷_, Path._∙_, Path._≡_, Path.ap, Path.refl}
-use Prim.Native.{Nat.suc, Nat.ℕ}
-use native.Mathlib.{Decide.ℕ-discrete, Omega.arith}
-use lib.{ListN.length, ListN.length-append, ListN.length-set, Seq.getD-append-seam}
+use Rattle.model.proofs.Logic.{Bool, [], _∙_, _∷_, _≡_, ap, arith, false, getD-append-seam, length, length-append, length-set, refl, suc, true, ℕ, ℕ-discrete}
 use Rattle.model.specs.{Commands.Command, Commands.result, Commands.step, Commands.tests, Lifecycle.begunNode, Records.absentNode, Records.blankNode, Records.newNode, Records.restoredNode, Records.restoringNode, Records.retiredNode, Records.withPhase, Refusals.accepted, Sizes.Sizes, Tables.Tables, Tables.nodeAt, declared.Parent.Parent, declared.Phase.Phase, declared.PortList.PortList, declared.records.Node.Node}
 use Rattle.model.proofs.{Laws.Booleans.clash, Laws.Booleans.not-f, Laws.Nodes.at-other, Laws.Nodes.at-same, Laws.Nodes.at-snoc, Laws.Nodes.past-blank, Laws.Nodes.present-lt, Laws.Refusals.Passed, Laws.Refusals.step-keeps, Theorems.Upstream.Replies.accepted-step, Theorems.Upstream.Replies.accepts}
 

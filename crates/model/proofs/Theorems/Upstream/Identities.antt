@@ -1,8 +1,5 @@
 -- ids and children: which identities they list, and that these ascend.
-use mathlib.Core.{Bool.Bool, Bool.cond, Bool.false, Bool.true, List.List, List.List·Memᴰ, List.List·Memᴰ·head, List.List·Memᴰ·not-nil, List.List·Memᴰ·tail, List.Memᴰ·cast, List.[], List._∷_, Logic._↔_, Path._≡_, Path.refl, Path.subst}
-use Prim.Native.{Nat._+_, Nat._<_, Nat._≤_, Nat.suc, Nat.zero, Nat.ℕ}
-use native.Mathlib.{Omega.arith}
-use lib.{ListN.getD, ListN.length}
+use Rattle.model.proofs.Logic.{Bool, List, List·Memᴰ, List·Memᴰ·head, List·Memᴰ·not-nil, List·Memᴰ·tail, Memᴰ·cast, [], _+_, _<_, _↔_, _∷_, _≡_, _≤_, arith, cond, false, getD, length, refl, subst, suc, true, zero, ℕ}
 use Rattle.model.specs.{Lists.places, Observers.children, Observers.ids, Records.blankNode, Records.isChildOf, Tables.Tables, Tables.nodeAt, Tables.present, declared.records.Node.Node}
 use Rattle.model.proofs.{Laws.Booleans.and-l, Laws.Nodes.present-lt}
 

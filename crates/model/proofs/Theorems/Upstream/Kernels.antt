@@ -1,5 +1,5 @@
 -- From tables to kernels: what a command hands back of a sound kernel is sound, and its tables and its reply are those of the step.
-use mathlib.Core.{Bool.false, Bool.true, Path._∙_, Path._≡_, Path.ap}
+use Rattle.model.proofs.Logic.{_∙_, _≡_, ap, false, true}
 use Rattle.model.proofs.{Theorems.Commands.step-sound, Theorems.Layouts.laid-out, Theorems.Layouts.layout-sound, Theorems.Layouts.read-back, Theorems.Layouts.tables-sound, Theorems.Upstream.Replies.refused-unchanged}
 use Rattle.model.specs.{Commands.Command, Commands.step, Kernels.commanded, Layouts.Layout, Layouts.Sized, Layouts.layOut, Layouts.soundKernel, Layouts.tablesOf, Refusals.accepted, Sizes.Sizes}
 

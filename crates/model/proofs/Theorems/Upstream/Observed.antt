@@ -1,11 +1,7 @@
 -- resolve, target and committed as the original's contracts speak of them, and coherence.
-use mathlib.Core.{Bool._&&_, Bool.false, Bool.not, Bool.true, List.List, List.List·Memᴰ, List.List·Memᴰ·head, List.List·Memᴰ·tail, List.Memᴰ·cast, List.[], List._∷_, Logic._↔_, Option.Option, Option.none, Option.some, Path._∙_, Path._≡_, Path.ap, Path.refl, Path.subst, Path.sym}
-use Prim.Native.{Nat._<_, Nat.suc, Nat.zero, Nat.ℕ}
-use native.Mathlib.{Omega.arith}
-use lib.{ListN.length, ListN.length-map}
-use borrow.{Author.Tests.eq-eqb}
+use Rattle.model.proofs.Logic.{List, List·Memᴰ, List·Memᴰ·head, List·Memᴰ·tail, Memᴰ·cast, Option, [], _&&_, _<_, _↔_, _∙_, _∷_, _≡_, ap, arith, eq-eqb, false, length, length-map, none, not, refl, some, subst, suc, sym, true, zero, ℕ}
 use Rattle.model.specs.{Interface.distinct, Interface.taken, Interface.takenBy, Lists.any, Lists.isNone, Lists.keep, Points.At, Records.bindingIn, Records.consumerIn, Records.declaredPort, Records.dependency, Records.ownerIn, Records.portIn, Records.portOf, Records.providerIn, Records.provision, Records.samePort, Resolution.Provides, Resolution.bindPorts, Resolution.committed, Resolution.dependencyPorts, Resolution.isLiveLinkOf, Resolution.joined, Resolution.target, Sizes.Sizes, Soundness.sound, Tables.Tables, Tables.nodeAt, Tables.notInactive, Tables.present, declared.Binding.Binding, declared.Port.Port, declared.records.Link.Link}
-use Rattle.model.proofs.{Laws.Booleans.and-i, Laws.Booleans.and-l, Laws.Booleans.and-r, Laws.Booleans.clash, Laws.Booleans.f-not, Laws.Booleans.not-t, Laws.Committed.live-link-of, Laws.Entry.refuted, Laws.Facts.Linked, Laws.Facts.LiveOk, Laws.Facts.facts, Laws.Facts.not-restoring, Laws.Facts.port-same, Laws.Facts.same-port, Laws.Lists.any-in, Laws.Lists.at-in, Laws.Lists.in-at, Laws.Lists.in-keep, Laws.Lists.in-map, Laws.Lists.is-some, Laws.Lists.keep-in, Laws.Lists.map-in, Laws.Lists.none-in, Laws.Records.declaration-is, Laws.Resolution.Targeted, Laws.Resolution.bound-in, Laws.Resolution.bound-ports, Laws.Resolution.target-bound, Laws.Resolution.target-covers, Laws.Resolution.target-needed, Laws.Resolution.targeted, Laws.Resolution.wants-in, Theorems.Points.at-node, Theorems.Points.to-present, Theorems.Resolution.resolve-some}
+use Rattle.model.proofs.{Laws.Booleans.and-i, Laws.Booleans.and-l, Laws.Booleans.and-r, Laws.Booleans.clash, Laws.Booleans.f-not, Laws.Booleans.not-t, Laws.Committed.live-link-of, Laws.Pieces.refuted, Laws.Facts.Linked, Laws.Facts.LiveOk, Laws.Facts.facts, Laws.Facts.not-restoring, Laws.Facts.port-same, Laws.Facts.same-port, Laws.Lists.any-in, Laws.Lists.at-in, Laws.Lists.in-at, Laws.Lists.in-keep, Laws.Lists.in-map, Laws.Lists.is-some, Laws.Lists.keep-in, Laws.Lists.map-in, Laws.Lists.none-in, Laws.Records.declaration-is, Laws.Resolution.Targeted, Laws.Resolution.bound-in, Laws.Resolution.bound-ports, Laws.Resolution.target-bound, Laws.Resolution.target-covers, Laws.Resolution.target-needed, Laws.Resolution.targeted, Laws.Resolution.wants-in, Theorems.Points.at-node, Theorems.Points.to-present, Theorems.Resolution.resolve-some}
 
 abbrev pub BindingIsTarget : Tables → ℕ → Binding → Type 0
 BindingIsTarget T id b = Provides T (portOf b) (b .provider) × List·Memᴰ (dependency id (portOf b)) (T .declarations)

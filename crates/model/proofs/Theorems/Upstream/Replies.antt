@@ -1,7 +1,5 @@
 -- Accepted and refused: a command is accepted exactly if no test of its row applies, and a refused one changes nothing.
-use mathlib.Core.{Bool.Bool, Bool.false, Bool.not, Bool.true, Logic._↔_, Path._≡_, Path.refl}
-use lib.{Dec.eqb}
-use borrow.{Author.Tests.eq-eqb}
+use Rattle.model.proofs.Logic.{Bool, _↔_, _≡_, eq-eqb, eqb, false, not, refl, true}
 use Rattle.model.specs.{Commands.Command, Commands.report, Commands.result, Commands.settle, Commands.step, Commands.tests, Lists.all, Refusals.Reply, Refusals.accepted, Refusals.number, Sizes.Sizes, Tables.Tables, declared.Error.Error}
 use Rattle.model.proofs.{Laws.Booleans.clash, Laws.Refusals.Passed, Laws.Refusals.first-among, Laws.Refusals.of-passed, Laws.Refusals.report-accepts, Laws.Refusals.step-cases}
 

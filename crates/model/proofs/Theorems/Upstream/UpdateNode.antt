@@ -1,10 +1,7 @@
 -- The original's clauses about update_node, of the definition `updateNode`.
-use mathlib.Core.{Bool.and-false, Bool.false, Bool.not, Bool.true, List.List·Memᴰ, Logic._↔_, Option.Option, Option.none, Option.some, Path._≡_, Path.ap, Path.refl, Path.sym}
-use Prim.Native.{Nat.ℕ}
-use lib.{Dec.eqb, ListN.length, ListN.length-set, ListN.set}
-use borrow.{Author.Tests.ne-eqb}
-use Rattle.model.specs.{Commands.Outcome, Commands.settle, Commands.updateNode, Lists.all, Lists.any, Records.consumerIn, Records.isChildOf, Records.isInactive, Records.isUnloading, Records.parentIn, Records.providerIn, Refusals.Reply, Refusals.accepted, Refusals.first, Refusals.number, Soundness.safetyWf, Tables.Tables, Tables.nodeAt, Tables.present, Tables.withNode, UpdateNode.blocks, UpdateNode.updateTests, declared.Error.Error, declared.Parent.Parent, declared.records.Link.Link, declared.records.Node.Node}
-use Rattle.model.proofs.{Laws.Booleans.and-l, Laws.Booleans.clash, Laws.Entry.refuted, Laws.Facts.safe-of, Laws.Lists.any-in, Laws.Nodes.at-other, Laws.Phases.unloading-installed, Laws.Refusals.Passed, Laws.Refusals.first-among, Laws.Refusals.of-passed, Laws.Refusals.passed, Laws.Update.calm, Theorems.UpdateNode.no-child, Theorems.UpdateNode.update-accepts}
+use Rattle.model.proofs.Logic.{List·Memᴰ, Option, _↔_, _≡_, and-false, ap, eqb, false, length, length-set, ne-eqb, none, not, refl, set, some, sym, true, ℕ}
+use Rattle.model.specs.{Commands.Step, Commands.settle, Commands.updateNode, Lists.all, Lists.any, Records.consumerIn, Records.isChildOf, Records.isInactive, Records.isUnloading, Records.parentIn, Records.providerIn, Refusals.Reply, Refusals.accepted, Refusals.first, Refusals.number, Soundness.safetyWf, Tables.Tables, Tables.nodeAt, Tables.present, Tables.withNode, UpdateNode.blocks, UpdateNode.updateTests, declared.Error.Error, declared.Parent.Parent, declared.records.Link.Link, declared.records.Node.Node}
+use Rattle.model.proofs.{Laws.Booleans.and-l, Laws.Booleans.clash, Laws.Pieces.refuted, Laws.Facts.safe-of, Laws.Lists.any-in, Laws.Nodes.at-other, Laws.Phases.unloading-installed, Laws.Refusals.Passed, Laws.Refusals.first-among, Laws.Refusals.of-passed, Laws.Refusals.passed, Laws.Update.calm, Theorems.UpdateNode.no-child, Theorems.UpdateNode.update-accepts}
 
 -- no live link is so
 abbrev OfNoLive : Tables → (Link → Type 0) → Type 0
@@ -13,7 +10,7 @@ OfNoLive T P = (l : Link) → List·Memᴰ l (T .links) → l .live ≡ true →
 module _ (T : Tables) (id : ℕ) (n : Node) where
   -- refused or accepted
   updated-cases :
-      (P : Outcome → Type 0)
+      (P : Step → Type 0)
       → ((e : Error) → first (updateTests T id n) ≡ some e → P (record { tables = T; reply = Reply.refused e }))
       → (Passed (updateTests T id n) → P (record { tables = withNode T id n; reply = Reply.done }))
       → P (updateNode T id n)

@@ -1,6 +1,5 @@
 -- `model::checks::check` meets its contract.
-use mathlib.Core.{Path._≡_}
-use borrow.{Author.Needs.needs}
+use Rattle.model.proofs.Logic.{_≡_, needs}
 use Rattle.model.specs.{Answers.checked, Rows.nodeTests, declared.Answer.Answer, declared.checks.Row.Row, declared.records.Node.Node}
 use Rattle.model.proofs.{checks.check.Statement.statement}
 use Rattle.model.proofs.checks.check.Tie as tie
@@ -10,27 +9,12 @@ of-row : {row r : Row} {a : Answer} (n : Node) → row ≡ r → a ≡ checked (
 of-row n e h = rw e h
 
 pub check-spec : {M : Type 1} → statement M
-check-spec =
-    tie.close
-    (tie.spec
-    (λ c. search needs)  -- enum-told
-    (λ c κs. search needs)  -- check-present-requires
-    (λ c. search needs)  -- enum-told-2
-    (λ c κs. search needs)  -- check-declare-requires
-    (λ c. search needs)  -- enum-told-3
-    (λ c κs. search needs)  -- check-configure-requires
-    (λ c. search needs)  -- enum-told-4
-    (λ c κs. search needs)  -- check-begin-requires
-    (λ c. search needs)  -- enum-told-5
-    (λ c κs. search needs)  -- check-loading-requires
-    (λ c. search needs)  -- enum-told-6
-    (λ c κs. search needs)  -- check-running-requires
-    (λ c. search needs)  -- enum-told-7
-    (λ c κs. search needs)  -- check-unloading-requires
-    (λ c. search needs)  -- enum-told-8
-    (λ c κs. search needs)  -- check-restoring-requires
-    (λ c. search needs)  -- enum-told-9
-    (λ c κs. search needs)  -- check-retired-requires
+check-spec = tie.close (tie.spec
+    (λ c. search needs) (λ c κs. search needs) (λ c. search needs) (λ c κs. search needs)  -- enum-told, check-present-requires, enum-told-2, check-declare-requires
+    (λ c. search needs) (λ c κs. search needs) (λ c. search needs) (λ c κs. search needs)  -- enum-told-3, check-configure-requires, enum-told-4, check-begin-requires
+    (λ c. search needs) (λ c κs. search needs) (λ c. search needs) (λ c κs. search needs)  -- enum-told-5, check-loading-requires, enum-told-6, check-running-requires
+    (λ c. search needs) (λ c κs. search needs) (λ c. search needs) (λ c κs. search needs)  -- enum-told-7, check-unloading-requires, enum-told-8, check-restoring-requires
+    (λ c. search needs) (λ c κs. search needs)  -- enum-told-9, check-retired-requires
     (λ c. of-row _ (c .before .enum-told .given .1) (c .check-present .ensures))  -- returns
     (λ c. of-row _ (c .before .enum-told2 .given .1) (c .check-declare .ensures))  -- returns-2
     (λ c. of-row _ (c .before .enum-told3 .given .1) (c .check-configure .ensures))  -- returns-3

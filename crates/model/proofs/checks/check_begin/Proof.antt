@@ -1,6 +1,5 @@
 -- `model::checks::check_begin` meets its contract.
-use mathlib.Core.{Bool.false, Bool.not, Path._∙_, Path._≡_, Path.ap, Path.sym}
-use borrow.{Author.Needs.needs, Author.Tests.ne-eqb}
+use Rattle.model.proofs.Logic.{_∙_, _≡_, ap, false, ne-eqb, needs, not, sym}
 use Rattle.model.specs.{Records.isInactive, Refusals.first}
 use Rattle.model.proofs.{checks.check_begin.Statement.statement}
 use Rattle.model.proofs.checks.check_begin.Tie as tie
@@ -34,9 +33,7 @@ unfolding first
 returns-5 c = let e = c .before .before .before in rw (present e, inactive e, c .before .before .if3 .left, ne-eqb _ _ (c .if4 .left))
 
 pub check-begin-spec : {M : Type 1} → statement M
-check-begin-spec =
-    tie.close
-    (tie.spec
+check-begin-spec = tie.close (tie.spec
     returns
     (λ c κs. search needs)  -- is-inactive-requires
     returns-2

@@ -1,5 +1,5 @@
 -- `model::checks::check_configure` meets its contract.
-use borrow.{Author.Needs.needs}
+use Rattle.model.proofs.Logic.{needs}
 use Rattle.model.specs.{Refusals.first}
 use Rattle.model.proofs.{checks.check_configure.Statement.statement}
 use Rattle.model.proofs.checks.check_configure.Tie as tie
@@ -24,5 +24,4 @@ unfolding first
 returns-4 c = rw (c .before .before .before .if1 .left, c .before .before .if2 .left, (rw (c .before .is-pending .ensures) at (c .if3 .left)))
 
 pub check-configure-spec : {M : Type 1} → statement M
-check-configure-spec =
-    tie.close (tie.spec returns returns-2 is-pending-requires returns-3 returns-4)
+check-configure-spec = tie.close (tie.spec returns returns-2 is-pending-requires returns-3 returns-4)

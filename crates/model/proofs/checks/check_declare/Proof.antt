@@ -1,5 +1,5 @@
 -- `model::checks::check_declare` meets its contract.
-use borrow.{Author.Needs.needs}
+use Rattle.model.proofs.Logic.{needs}
 use Rattle.model.specs.{Refusals.first}
 use Rattle.model.proofs.{checks.check_declare.Statement.statement}
 use Rattle.model.proofs.checks.check_declare.Tie as tie
@@ -27,6 +27,5 @@ unfolding first
 returns-4 c = rw (c .before .before .before .before .if1 .left, c .before .before .before .if2 .left, (rw (c .before .is-pending .ensures, c .before .before .is-running .ensures) at (c .if3 .left)))
 
 pub check-declare-spec : {M : Type 1} → statement M
-check-declare-spec =
-    tie.close
+check-declare-spec = tie.close
     (tie.spec returns returns-2 is-running-requires is-pending-requires returns-3 returns-4)

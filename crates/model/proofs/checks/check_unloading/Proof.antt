@@ -1,5 +1,5 @@
 -- `model::checks::check_unloading` meets its contract.
-use borrow.{Author.Needs.needs}
+use Rattle.model.proofs.Logic.{needs}
 use Rattle.model.specs.{Refusals.first}
 use Rattle.model.proofs.{checks.check_unloading.Statement.statement}
 use Rattle.model.proofs.checks.check_unloading.Tie as tie

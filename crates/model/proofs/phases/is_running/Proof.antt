@@ -1,5 +1,5 @@
 -- `model::phases::is_running` meets its contract.
-use borrow.{Author.Needs.needs}
+use Rattle.model.proofs.Logic.{needs}
 use Rattle.model.proofs.{phases.is_running.Statement.statement}
 use Rattle.model.proofs.phases.is_running.Tie as tie
 

@@ -1,5 +1,5 @@
 -- `model::records::new_node` meets its contract.
-use borrow.{Author.Needs.needs}
+use Rattle.model.proofs.Logic.{needs}
 use Rattle.model.proofs.{records.new_node.Statement.statement}
 use Rattle.model.proofs.records.new_node.Tie as tie
 
@@ -7,8 +7,6 @@ returns : tie.Need-returns
 returns c = rw (c .stored-parent .ensures)
 
 pub new-node-spec : {M : Type 1} → statement M
-new-node-spec =
-    tie.close
-    (tie.spec
+new-node-spec = tie.close (tie.spec
     (λ c κs. search needs)  -- stored-parent-requires
     returns)

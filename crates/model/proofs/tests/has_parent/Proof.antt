@@ -1,5 +1,5 @@
 -- `model::tests::has_parent` meets its contract.
-use borrow.{Author.Needs.needs}
+use Rattle.model.proofs.Logic.{needs}
 use Rattle.model.proofs.{tests.has_parent.Statement.statement}
 use Rattle.model.proofs.tests.has_parent.Tie as tie
 

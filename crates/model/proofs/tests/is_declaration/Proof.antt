@@ -1,5 +1,5 @@
 -- `model::tests::is_declaration` meets its contract.
-use borrow.{Author.Needs.needs}
+use Rattle.model.proofs.Logic.{needs}
 use Rattle.model.specs.{Soundness.isDeclaration}
 use Rattle.model.proofs.{tests.is_declaration.Statement.statement}
 use Rattle.model.proofs.tests.is_declaration.Tie as tie
@@ -9,10 +9,6 @@ unfolding isDeclaration
 returns c = cc
 
 pub is-declaration-spec : {M : Type 1} → statement M
-is-declaration-spec =
-    tie.close
-    (tie.spec
-    (λ c κs. search needs)  -- declared-port-requires
-    (λ c κs. search needs)  -- same-port-requires
-    (λ c κs. search needs)  -- owner-in-requires
+is-declaration-spec = tie.close (tie.spec
+    (λ c κs. search needs) (λ c κs. search needs) (λ c κs. search needs)  -- declared-port-requires, same-port-requires, owner-in-requires
     returns)

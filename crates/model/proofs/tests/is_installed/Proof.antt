@@ -1,5 +1,5 @@
 -- `model::tests::is_installed` meets its contract.
-use borrow.{Author.Needs.needs}
+use Rattle.model.proofs.Logic.{needs}
 use Rattle.model.proofs.{tests.is_installed.Statement.statement}
 use Rattle.model.proofs.tests.is_installed.Tie as tie
 

@@ -1,5 +1,5 @@
 -- `model::tests::is_live_link_of` meets its contract.
-use borrow.{Author.Needs.needs}
+use Rattle.model.proofs.Logic.{needs}
 use Rattle.model.specs.{Resolution.isLiveLinkOf}
 use Rattle.model.proofs.{tests.is_live_link_of.Statement.statement}
 use Rattle.model.proofs.tests.is_live_link_of.Tie as tie
@@ -9,8 +9,6 @@ unfolding isLiveLinkOf
 returns c = cc
 
 pub is-live-link-of-spec : {M : Type 1} → statement M
-is-live-link-of-spec =
-    tie.close
-    (tie.spec
+is-live-link-of-spec = tie.close (tie.spec
     (λ c κs. search needs)  -- consumer-in-requires
     returns)

@@ -1,5 +1,5 @@
 -- `model::tests::is_serving` meets its contract.
-use borrow.{Author.Needs.needs}
+use Rattle.model.proofs.Logic.{needs}
 use Rattle.model.proofs.{tests.is_serving.Statement.statement}
 use Rattle.model.proofs.tests.is_serving.Tie as tie
 

@@ -1,5 +1,5 @@
 -- `model::tests::relies_on` meets its contract.
-use borrow.{Author.Needs.needs}
+use Rattle.model.proofs.Logic.{needs}
 use Rattle.model.specs.{Interface.reliesOn}
 use Rattle.model.proofs.{tests.relies_on.Statement.statement}
 use Rattle.model.proofs.tests.relies_on.Tie as tie
@@ -9,10 +9,6 @@ unfolding reliesOn
 returns c = cc
 
 pub relies-on-spec : {M : Type 1} → statement M
-relies-on-spec =
-    tie.close
-    (tie.spec
-    (λ c κs. search needs)  -- port-in-requires
-    (λ c κs. search needs)  -- same-port-requires
-    (λ c κs. search needs)  -- provider-in-requires
+relies-on-spec = tie.close (tie.spec
+    (λ c κs. search needs) (λ c κs. search needs) (λ c κs. search needs)  -- port-in-requires, same-port-requires, provider-in-requires
     returns)

@@ -1,5 +1,5 @@
 -- `model::transitions::restored_node` meets its contract.
-use borrow.{Author.Needs.needs}
+use Rattle.model.proofs.Logic.{needs}
 use Rattle.model.proofs.{transitions.restored_node.Statement.statement}
 use Rattle.model.proofs.transitions.restored_node.Tie as tie
 
@@ -7,8 +7,6 @@ returns : tie.Need-returns
 returns c = rw (c .with-phase .ensures)
 
 pub restored-node-spec : {M : Type 1} → statement M
-restored-node-spec =
-    tie.close
-    (tie.spec
+restored-node-spec = tie.close (tie.spec
     (λ c κs. search needs)  -- with-phase-requires
     returns)

@@ -1,8 +1,5 @@
 -- `player::commands::play` is safe and ends: each turn moves the place in the log on.
-use Prim.Native.{Nat._-_}
-use native.Mathlib.{Omega.arith}
-use mathlib.Core.{Path._≡_}
-use lib.{ListN.length, ListN.length-set}
+use Rattle.model.proofs.Logic.{_-_, _≡_, arith, length, length-set}
 use Rattle.player.proofs.{commands.play.Statement.statement}
 use Rattle.player.proofs.commands.play.Tie as tie
 
@@ -13,25 +10,12 @@ abbrev μ-loop : tie.MeasureT-loop
 μ-loop log answers₀ kernel₀ dependencies₀ provisions₀ at₀ answered₀ detail₀ answers kernel dependencies provisions at answered detail = length log - at
 
 pub play-spec : {M : Type 1} → statement M
-play-spec =
-    tie.close
-    (tie.spec
-    Inv-loop
-    μ-loop
-    (λ c. omega arith)  -- loop-holds
-    (λ c. omega arith)  -- shared-slice-read-byte
+play-spec = tie.close (tie.spec Inv-loop μ-loop
+    (λ c. omega arith) (λ c. omega arith)  -- loop-holds, shared-slice-read-byte
     (λ c κs. tt)  -- length-of-requires
-    (λ c. omega arith)  -- slice-write-answers
-    (λ c. omega arith)  -- add-answered
-    (λ c. omega arith)  -- sub-if3
-    (λ c. omega arith)  -- slice-write-answers-2
-    (λ c. omega arith)  -- add-answered-2
-    (λ c. omega arith)  -- add-operands
-    (λ c. omega arith)  -- add-operands-2
-    (λ c. omega arith)  -- add-operands-3
-    (λ c. omega arith)  -- sub-operands
-    (λ c. omega arith)  -- part-operands-start
-    (λ c. omega arith)  -- part-operands-end
+    (λ c. omega arith) (λ c. omega arith) (λ c. omega arith) (λ c. omega arith)  -- slice-write-answers, add-answered, sub-if3, slice-write-answers-2
+    (λ c. omega arith) (λ c. omega arith) (λ c. omega arith) (λ c. omega arith)  -- add-answered-2, add-operands, add-operands-2, add-operands-3
+    (λ c. omega arith) (λ c. omega arith) (λ c. omega arith)  -- sub-operands, part-operands-start, part-operands-end
     (λ c κs. tt)  -- identity-requires
     (λ c κs. tt)  -- addition-requires
     (λ c κs. tt)  -- port-at-requires
@@ -71,11 +55,7 @@ play-spec =
     (λ c κs. tt)  -- answer-number-requires-12
     (λ c κs. tt)  -- configure-pending-dependencies-requires
     (λ c κs. tt)  -- answer-number-requires-13
-    (λ c. omega arith)  -- slice-write-answers-3
-    (λ c. omega arith)  -- add-answered-3
-    (λ c. omega arith)  -- add-at
-    (λ c. omega arith)  -- add-at-2
-    (λ c. omega arith)  -- loop-less
+    (λ c. omega arith) (λ c. omega arith) (λ c. omega arith) (λ c. omega arith) (λ c. omega arith)  -- slice-write-answers-3, add-answered-3, add-at, add-at-2, loop-less
     (λ c. simp length-set (omega arith))  -- loop-again
     (λ c. omega arith)  -- same-length
     (λ c. tt)  -- returns

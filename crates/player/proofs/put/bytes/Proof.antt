@@ -1,8 +1,5 @@
 -- `player::put::bytes` is safe and ends.
-use Prim.Native.{Nat._-_}
-use mathlib.Core.{Path._≡_, Path.refl}
-use native.Mathlib.{Omega.arith}
-use lib.{ListN.length}
+use Rattle.model.proofs.Logic.{_-_, _≡_, arith, length, refl}
 use Rattle.player.proofs.{put.bytes.Statement.statement}
 use Rattle.player.proofs.put.bytes.Tie as tie
 
@@ -16,16 +13,10 @@ same-length : tie.Need-same-length Inv-loop μ-loop
 same-length c = c .before .loop .inv
 
 pub bytes-spec : {M : Type 1} → statement M
-bytes-spec =
-    tie.close
-    (tie.spec
-    Inv-loop
-    μ-loop
+bytes-spec = tie.close (tie.spec Inv-loop μ-loop
     (λ c. refl)  -- loop-holds
     (λ c. omega arith)  -- cast-byte
     (λ c κs. tt)  -- byte-requires
-    (λ c. omega arith)  -- add-i
-    (λ c. omega arith)  -- loop-less
-    (λ c. omega arith)  -- loop-again
+    (λ c. omega arith) (λ c. omega arith) (λ c. omega arith)  -- add-i, loop-less, loop-again
     same-length
     (λ c. tt))  -- returns

@@ -1,8 +1,5 @@
 -- `player::tables::declarations` is safe and ends. The index is below the size at each read.
-use Prim.Native.{Nat._-_}
-use native.Mathlib.{Omega.arith}
-use mathlib.Core.{Path._≡_}
-use lib.{ListN.length}
+use Rattle.model.proofs.Logic.{_-_, _≡_, arith, length}
 use Rattle.player.proofs.{tables.declarations.Statement.statement}
 use Rattle.player.proofs.tables.declarations.Tie as tie
 
@@ -13,18 +10,9 @@ abbrev μ-loop : tie.MeasureT-loop
 μ-loop out₀ at declarations end at₀ i₀ out at' i = end - i
 
 pub declarations-spec : {M : Type 1} → statement M
-declarations-spec =
-    tie.close
-    (tie.spec
-    Inv-loop
-    μ-loop
+declarations-spec = tie.close (tie.spec Inv-loop μ-loop
     (λ c κs. tt)  -- at-most-requires
-    (λ c. omega arith)  -- loop-holds
-    (λ c. omega arith)  -- mul-declaration
-    (λ c. omega arith)  -- array-copy-out-declaration
+    (λ c. omega arith) (λ c. omega arith) (λ c. omega arith)  -- loop-holds, mul-declaration, array-copy-out-declaration
     (λ c κs. tt)  -- declaration-requires
-    (λ c. omega arith)  -- add-i
-    (λ c. omega arith)  -- loop-less
-    (λ c. omega arith)  -- loop-again
-    (λ c. omega arith)  -- same-length
+    (λ c. omega arith) (λ c. omega arith) (λ c. omega arith) (λ c. omega arith)  -- add-i, loop-less, loop-again, same-length
     (λ c. tt))  -- returns

@@ -1,9 +1,5 @@
 -- `scans::declarations::check_provisions` meets its contract. In each loop, what is left to scan answers as the whole does.
-use mathlib.Core.{Bool.Bool, Bool.true, List.List, Path._∙_, Path._≡_, Path.refl, Path.sym}
-use Prim.Native.{Nat._+_, Nat._-_, Nat.ℕ}
-use native.Mathlib.{Omega.arith}
-use lib.{ListN.length-map, ListN.take, Seq.slice}
-use borrow.{Author.Needs.needs}
+use Rattle.model.proofs.Logic.{Bool, List, _+_, _-_, _∙_, _≡_, arith, length-map, needs, refl, slice, sym, take, true, ℕ}
 use Rattle.model.specs.{Interface.takenBy, Lists.any, Records.blankDeclaration, Records.blankPort, Records.samePort, declared.Port.Port, declared.records.Declaration.Declaration}
 use Rattle.loops.proofs.{Laws.Distinct.Apart, Laws.Distinct.again-start, Laws.Distinct.apart-end, Laws.Distinct.apart-hit, Laws.Distinct.apart-on, Laws.Distinct.apart-start, Laws.Distinct.apart-twice, Laws.Distinct.distinctApart, Laws.Scanning.Seeking, Laws.Scanning.seek-end, Laws.Scanning.seek-hit, Laws.Scanning.seek-on, Laws.Scanning.seek-start}
 use Rattle.loops.specs.{Columns.flag}
@@ -56,37 +52,21 @@ returns-3 c =
     apart-hit (o .scan .inv .1) (omega arith) (seek-hit (h .loop2 .inv .1) blankDeclaration (omega arith) (sym (c .before .taken-by .ensures) ∙ c .if2 .taken))
 
 pub check-provisions-spec : {M : Type 1} → statement M
-check-provisions-spec =
-    tie.close
-    (tie.spec
-    Inv-loop
-    μ-loop
+check-provisions-spec = tie.close (tie.spec Inv-loop μ-loop
     Inv-loop2
     μ-loop2
     Inv-scan
     μ-scan
-    (λ c κs. search needs)  -- at-most-requires
-    (λ c κs. search needs)  -- at-most-requires-2
+    (λ c κs. search needs) (λ c κs. search needs)  -- at-most-requires, at-most-requires-2
     scan-holds
-    (λ c. omega arith)  -- mul-p
-    (λ c. omega arith)  -- array-copy-out-p
-    (λ c. omega arith)  -- add-j
+    (λ c. omega arith) (λ c. omega arith) (λ c. omega arith)  -- mul-p, array-copy-out-p, add-j
     (λ c. (refl, again-start (c .before .before .scan .inv .1) _))  -- loop-holds
-    (λ c. omega arith)  -- mul-q
-    (λ c. omega arith)  -- array-copy-out-q
-    (λ c κs. search needs)  -- same-port-requires
-    (λ c. omega arith)  -- add-j-2
-    (λ c. omega arith)  -- loop-less
+    (λ c. omega arith) (λ c. omega arith) (λ c κs. search needs) (λ c. omega arith) (λ c. omega arith)  -- mul-q, array-copy-out-q, same-port-requires, add-j-2, loop-less
     (λ c. (search, seek-on (search) blankPort (omega arith) (cc)))  -- loop-again
     (λ c. (refl, seek-start (omega arith) (c .before .before .before .before .before .at-most2 .ensures)))  -- loop2-holds
-    (λ c. omega arith)  -- mul-d
-    (λ c. omega arith)  -- array-copy-out-d
-    (λ c κs. search needs)  -- taken-by-requires
-    (λ c. omega arith)  -- add-k
-    (λ c. omega arith)  -- loop2-less
+    (λ c. omega arith) (λ c. omega arith) (λ c κs. search needs) (λ c. omega arith) (λ c. omega arith)  -- mul-d, array-copy-out-d, taken-by-requires, add-k, loop2-less
     loop2-again
-    (λ c. omega arith)  -- add-i
-    (λ c. omega arith)  -- scan-less
+    (λ c. omega arith) (λ c. omega arith)  -- add-i, scan-less
     scan-again
     (λ c. c .before .scan .inv .0 ∙ apart-end (c .before .scan .inv .1) (c .scan-test .left))  -- returns
     returns-2

@@ -1,5 +1,5 @@
 -- `scans::declarations::taken_by` meets its contract.
-use borrow.{Author.Needs.needs}
+use Rattle.model.proofs.Logic.{needs}
 use Rattle.model.specs.{Interface.takenBy}
 use Rattle.scans.proofs.{declarations.taken_by.Statement.statement}
 use Rattle.scans.proofs.declarations.taken_by.Tie as tie
@@ -9,11 +9,7 @@ unfolding takenBy
 returns c = cc
 
 pub taken-by-spec : {M : Type 1} → statement M
-taken-by-spec =
-    tie.close
-    (tie.spec
-    (λ c κs. search needs)  -- declared-port-requires
-    (λ c κs. search needs)  -- owner-in-requires
-    (λ c κs. search needs)  -- same-port-requires
+taken-by-spec = tie.close (tie.spec
+    (λ c κs. search needs) (λ c κs. search needs) (λ c κs. search needs)  -- declared-port-requires, owner-in-requires, same-port-requires
     (λ c κs. search needs)  -- flag-at-requires
     returns)

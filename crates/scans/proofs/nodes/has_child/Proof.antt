@@ -1,9 +1,5 @@
 -- `scans::nodes::has_child` meets its contract. What is left of the table answers as the whole does.
-use mathlib.Core.{Path._∙_, Path.sym}
-use Prim.Native.{Nat._-_}
-use native.Mathlib.{Omega.arith}
-use lib.{ListN.take}
-use borrow.{Author.Needs.needs}
+use Rattle.model.proofs.Logic.{_-_, _∙_, arith, needs, sym, take}
 use Rattle.model.specs.{Lists.any, Records.blankNode, Records.isChildOf}
 use Rattle.loops.proofs.{Laws.Scanning.Seeking, Laws.Scanning.seek-end, Laws.Scanning.seek-hit, Laws.Scanning.seek-on, Laws.Scanning.seek-start}
 use Rattle.scans.proofs.{nodes.has_child.Statement.statement}
@@ -16,18 +12,11 @@ abbrev μ-loop : tie.MeasureT-loop
 μ-loop count id nodes end i₀ i = end - i
 
 pub has-child-spec : {M : Type 1} → statement M
-has-child-spec =
-    tie.close
-    (tie.spec
-    Inv-loop
-    μ-loop
+has-child-spec = tie.close (tie.spec Inv-loop μ-loop
     (λ c κs. search needs)  -- at-most-requires
     (λ c. seek-start (omega arith) (c .at-most .ensures))  -- loop-holds
-    (λ c. omega arith)  -- mul-node
-    (λ c. omega arith)  -- array-copy-out-node
-    (λ c κs. search needs)  -- is-child-of-requires
+    (λ c. omega arith) (λ c. omega arith) (λ c κs. search needs)  -- mul-node, array-copy-out-node, is-child-of-requires
     (λ c. let t = sym (c .before .is-child-of .ensures) ∙ c .if1 .taken in search seek-hit)  -- returns
-    (λ c. omega arith)  -- add-i
-    (λ c. omega arith)  -- loop-less
+    (λ c. omega arith) (λ c. omega arith)  -- add-i, loop-less
     (λ c. seek-on (search) blankNode (omega arith) (cc))  -- loop-again
     (λ c. search seek-end))  -- returns-2

@@ -1,8 +1,5 @@
 -- `scans::nodes::node_flags` meets its contract. The places below i of each array are filled with the answers on the nodes below i.
-use mathlib.Core.{Bool.false, Path.refl}
-use Prim.Native.{Nat._-_}
-use native.Mathlib.{Omega.arith}
-use borrow.{Author.Needs.needs}
+use Rattle.model.proofs.Logic.{_-_, arith, false, needs, refl}
 use Rattle.model.specs.{Records.blankNode, Records.isProviding}
 use Rattle.loops.proofs.{Laws.Filled.Begun, Laws.Filled.begun-end, Laws.Filled.begun-next, Laws.Filled.begun-start}
 use Rattle.scans.proofs.{nodes.node_flags.Statement.statement}
@@ -25,18 +22,9 @@ returns c =
     λ k. record { present = p k; providing = q k }
 
 pub node-flags-spec : {M : Type 1} → statement M
-node-flags-spec =
-    tie.close
-    (tie.spec
-    Inv-loop
-    μ-loop
+node-flags-spec = tie.close (tie.spec Inv-loop μ-loop
     (λ c. (begun-start refl, begun-start refl))  -- loop-holds
-    (λ c. omega arith)  -- mul-node
-    (λ c. omega arith)  -- array-copy-out-node
-    (λ c. omega arith)  -- array-write-present
-    (λ c κs. search needs)  -- is-providing-requires
-    (λ c. omega arith)  -- array-write-providing
-    (λ c. omega arith)  -- add-i
-    (λ c. omega arith)  -- loop-less
+    (λ c. omega arith) (λ c. omega arith) (λ c. omega arith) (λ c κs. search needs)  -- mul-node, array-copy-out-node, array-write-present, is-providing-requires
+    (λ c. omega arith) (λ c. omega arith) (λ c. omega arith)  -- array-write-providing, add-i, loop-less
     loop-again
     returns)

@@ -1,8 +1,5 @@
 -- `scans::nodes::parent_ok` meets its contract.
-use mathlib.Core.{Path.ap, Path.refl, Path.sym}
-use native.Mathlib.{Omega.arith}
-use lib.{ListN.take}
-use borrow.{Author.Needs.needs}
+use Rattle.model.proofs.Logic.{ap, arith, needs, refl, sym, take}
 use Rattle.model.specs.{Soundness.parentOk}
 use Rattle.loops.proofs.{Laws.Parents.parent-early, Laws.Parents.parent-late, Laws.Parents.parent-past}
 use Rattle.scans.proofs.{nodes.parent_ok.Statement.statement}
@@ -31,15 +28,11 @@ returns-4 c =
     sym (parent-early (start m .args .count) (start m .args .t1) (held m .parent .given .1) (c .before .before .if1 .left) (omega arith) refl)
 
 pub parent-ok-spec : {M : Type 1} → statement M
-parent-ok-spec =
-    tie.close
-    (tie.spec
-    (λ c. search needs)  -- enum-known-parent
-    (λ c. search needs)  -- enum-told
+parent-ok-spec = tie.close (tie.spec
+    (λ c. search needs) (λ c. search needs)  -- enum-known-parent, enum-told
     returns
     (λ c κs. search needs)  -- at-most-requires
     (λ c. sym (parent-late _ (held (c .before) .parent .given .1) (c .if1 .taken)))  -- returns-2
     returns-3
-    (λ c. search needs)  -- mul-above
-    (λ c. search needs)  -- array-copy-out-above
+    (λ c. search needs) (λ c. search needs)  -- mul-above, array-copy-out-above
     returns-4)

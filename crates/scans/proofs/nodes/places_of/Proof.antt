@@ -1,8 +1,5 @@
 -- `scans::nodes::places_of` meets its contract. The places so far and those of what is left are the places of the whole.
-use mathlib.Core.{Bool.false, List._++_, Logic.⊎-elim, Path.refl}
-use Prim.Native.{Nat._-_}
-use native.Mathlib.{Omega.arith}
-use lib.{ListN.drop}
+use Rattle.model.proofs.Logic.{_++_, _-_, arith, drop, false, refl, ⊎-elim}
 use Rattle.model.specs.{Lists.places}
 use Rattle.loops.proofs.{Laws.Collecting.Collecting, Laws.Collecting.append-skip, Laws.Collecting.append-take, Laws.Collecting.collect-end, Laws.Collecting.collect-skip, Laws.Collecting.collect-start, Laws.Collecting.collect-take, Laws.Collecting.place-none, Laws.Collecting.place-skip, Laws.Collecting.place-take}
 use Rattle.scans.proofs.{nodes.places_of.Statement.statement}
@@ -31,17 +28,9 @@ returns c =
     λ k. record { ids = e .0 k; count = e .1 k }
 
 pub places-of-spec : {M : Type 1} → statement M
-places-of-spec =
-    tie.close
-    (tie.spec
-    Inv-loop
-    μ-loop
+places-of-spec = tie.close (tie.spec Inv-loop μ-loop
     (λ c. collect-start refl refl)  -- loop-holds
-    (λ c. omega arith)  -- array-read-if1
-    (λ c. omega arith)  -- mul-ids
-    (λ c. omega arith)  -- array-write-ids
-    (λ c. omega arith)  -- add-n
-    (λ c. omega arith)  -- add-i
+    (λ c. omega arith) (λ c. omega arith) (λ c. omega arith) (λ c. omega arith) (λ c. omega arith)  -- array-read-if1, mul-ids, array-write-ids, add-n, add-i
     (λ c. omega arith)  -- loop-less
     loop-again
     returns)

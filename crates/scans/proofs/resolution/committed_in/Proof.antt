@@ -1,9 +1,5 @@
 -- `scans::resolution::committed_in` meets its contract. The bindings so far and those of the links that are left are the bindings of the whole.
-use mathlib.Core.{List.List, List._++_, List.map, Logic.⊎-elim, Path._∙_, Path.ap, Path.sym}
-use Prim.Native.{Nat._-_}
-use native.Mathlib.{Omega.arith}
-use lib.{ListN.set, ListN.take, Seq.slice}
-use borrow.{Author.Needs.needs}
+use Rattle.model.proofs.Logic.{List, _++_, _-_, _∙_, ap, arith, map, needs, set, slice, sym, take, ⊎-elim}
 use Rattle.model.specs.{Lists.keep, Records.bindingIn, Records.blankBinding, Records.blankLink, Resolution.committed, Resolution.isLiveLinkOf, declared.Binding.Binding, declared.records.Link.Link}
 use Rattle.loops.proofs.{Laws.Collecting.Collecting, Laws.Collecting.append-skip, Laws.Collecting.append-take, Laws.Collecting.collect-end, Laws.Collecting.collect-skip, Laws.Collecting.collect-start, Laws.Collecting.collect-take, Laws.Collecting.kept-none, Laws.Collecting.kept-skip, Laws.Collecting.kept-take, Laws.Scan.take-most}
 use Rattle.scans.proofs.{resolution.committed_in.Statement.statement}
@@ -42,7 +38,8 @@ loop-again c =
     let live = isLiveLinkOf (cut n .before .args .id) in
     let e = sym (v .is-live-link-of .ensures) in
     ⊎-elim
-    (λ w. let t = kept-take live blankLink (links n) end (j .i) (omega arith) (omega arith) (e ∙ w .0 .taken) in collect-take (j .inv) _ (omega arith) (append-take (ap (map binding) t)) (w .2 ∙ ap (set (j .bindings) (j .n)) (w .1 .ensures)) (w .3))
+    (λ w. let t = kept-take live blankLink (links n) end (j .i) (omega arith) (omega arith) (e ∙ w .0 .taken) in
+    collect-take (j .inv) _ (omega arith) (append-take (ap (map binding) t)) (w .2 ∙ ap (set (j .bindings) (j .n)) (w .1 .ensures)) (w .3))
     (λ w. collect-skip (j .inv) (append-skip (ap (map binding) (kept-skip live blankLink (links n) end (j .i) (omega arith) (omega arith) (e ∙ w .0 .left)))) (w .1) (w .2))
     (c .if1 .came)
 
@@ -55,22 +52,10 @@ returns c =
     λ k. record { bindings = e .0 k; count = e .1 k }
 
 pub committed-in-spec : {M : Type 1} → statement M
-committed-in-spec =
-    tie.close
-    (tie.spec
-    Inv-loop
-    μ-loop
-    (λ c κs. search needs)  -- at-most-requires
-    (λ c κs. search needs)  -- blank-binding-requires
+committed-in-spec = tie.close (tie.spec Inv-loop μ-loop
+    (λ c κs. search needs) (λ c κs. search needs)  -- at-most-requires, blank-binding-requires
     loop-holds
-    (λ c. omega arith)  -- mul-l
-    (λ c. omega arith)  -- array-copy-out-l
-    (λ c κs. search needs)  -- is-live-link-of-requires
-    (λ c κs. search needs)  -- binding-in-requires
-    (λ c. omega arith)  -- mul-bindings
-    (λ c. omega arith)  -- array-set-from-bindings
-    (λ c. omega arith)  -- add-n
-    (λ c. omega arith)  -- add-i
-    (λ c. omega arith)  -- loop-less
+    (λ c. omega arith) (λ c. omega arith) (λ c κs. search needs) (λ c κs. search needs)  -- mul-l, array-copy-out-l, is-live-link-of-requires, binding-in-requires
+    (λ c. omega arith) (λ c. omega arith) (λ c. omega arith) (λ c. omega arith) (λ c. omega arith)  -- mul-bindings, array-set-from-bindings, add-n, add-i, loop-less
     loop-again
     returns)

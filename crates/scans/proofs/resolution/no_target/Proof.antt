@@ -1,7 +1,5 @@
 -- `scans::resolution::no_target` meets its contract.
-use mathlib.Core.{Bool.false, Path.ap}
-use lib.{ListN.replicate}
-use borrow.{Author.Needs.needs}
+use Rattle.model.proofs.Logic.{ap, false, needs, replicate}
 use Rattle.model.specs.{Lists.padded, declared.Binding.Binding}
 use Rattle.scans.proofs.{resolution.no_target.Statement.statement}
 use Rattle.scans.proofs.resolution.no_target.Tie as tie

@@ -1,9 +1,5 @@
 -- `scans::resolution::resolve_in` meets its contract. The rows that are left resolve the port as all the rows do.
-use mathlib.Core.{Path.ap}
-use Prim.Native.{Nat._-_}
-use native.Mathlib.{Omega.arith}
-use lib.{ListN.take}
-use borrow.{Author.Needs.needs}
+use Rattle.model.proofs.Logic.{_-_, ap, arith, needs, take}
 use Rattle.model.specs.{Answers.resolution, Resolution.offers, Resolution.resolve}
 use Rattle.loops.proofs.{Laws.Resolving.Resolving, Laws.Resolving.resolve-end, Laws.Resolving.resolve-hit, Laws.Resolving.resolve-on, Laws.Resolving.resolve-start}
 use Rattle.loops.specs.{Columns.declarationAt, Columns.declarationsOf, Columns.flag, Columns.rowsFrom}
@@ -40,23 +36,12 @@ unfolding declarationsOf
 returns-2 c = ap resolution (resolve-end (c .before .loop .inv) (c .loop-test .left))
 
 pub resolve-in-spec : {M : Type 1} → statement M
-resolve-in-spec =
-    tie.close
-    (tie.spec
-    Inv-loop
-    μ-loop
+resolve-in-spec = tie.close (tie.spec Inv-loop μ-loop
     (λ c κs. search needs)  -- at-most-requires
     (λ c. resolve-start (c .at-most .ensures))  -- loop-holds
-    (λ c. omega arith)  -- mul-o
-    (λ c. omega arith)  -- element-copy-out-o
-    (λ c κs. search needs)  -- flag-at-requires
-    (λ c. omega arith)  -- mul-same
-    (λ c. omega arith)  -- element-copy-out-same
-    (λ c. omega arith)  -- mul-same-2
-    (λ c. omega arith)  -- element-copy-out-same-2
-    (λ c. omega arith)  -- element-copy-out-if1
+    (λ c. omega arith) (λ c. omega arith) (λ c κs. search needs) (λ c. omega arith)  -- mul-o, element-copy-out-o, flag-at-requires, mul-same
+    (λ c. omega arith) (λ c. omega arith) (λ c. omega arith) (λ c. omega arith)  -- element-copy-out-same, mul-same-2, element-copy-out-same-2, element-copy-out-if1
     returns
-    (λ c. omega arith)  -- add-i
-    (λ c. omega arith)  -- loop-less
+    (λ c. omega arith) (λ c. omega arith)  -- add-i, loop-less
     loop-again
     returns-2)

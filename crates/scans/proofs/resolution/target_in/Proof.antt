@@ -1,9 +1,5 @@
 -- `scans::resolution::target_in` meets its contract. The bindings so far and those of the rows that are left are the bindings of all the rows.
-use mathlib.Core.{Bool.Bool, List.List, Logic.⊎-elim, Option.Option, Path._∙_, Path.ap}
-use Prim.Native.{Nat._-_, Nat.ℕ}
-use native.Mathlib.{Omega.arith}
-use lib.{ListN.set, ListN.take}
-use borrow.{Author.Needs.needs}
+use Rattle.model.proofs.Logic.{Bool, List, Option, _-_, _∙_, ap, arith, needs, set, take, ℕ, ⊎-elim}
 use Rattle.model.specs.{Lists.padded, Records.bindingOf, Records.blankBinding, Records.declaredPort, Resolution.bindPorts, Resolution.dependencyPorts, Resolution.isDependencyOf, Resolution.resolve, declared.Port.Port, declared.records.Declaration.Declaration}
 use Rattle.loops.proofs.{Laws.Collecting.Collecting, Laws.Collecting.collect-skip, Laws.Collecting.collect-start, Laws.Collecting.collect-take, Laws.Resolving.bind-end, Laws.Resolving.bind-none, Laws.Resolving.bind-skip, Laws.Resolving.bind-start, Laws.Resolving.bind-take, Laws.Resolving.bound, Laws.Resolving.found, Laws.Resolving.not-found}
 use Rattle.loops.specs.{Columns.declarationAt, Columns.declarationsOf, Columns.flag, Columns.rowsFrom}
@@ -77,30 +73,14 @@ returns-2 c =
     rw (e, j .inv .holds, j .inv .counted)
 
 pub target-in-spec : {M : Type 1} → statement M
-target-in-spec =
-    tie.close
-    (tie.spec
-    Inv-loop
-    μ-loop
-    (λ c κs. search needs)  -- at-most-requires
-    (λ c κs. search needs)  -- blank-binding-requires
+target-in-spec = tie.close (tie.spec Inv-loop μ-loop
+    (λ c κs. search needs) (λ c κs. search needs)  -- at-most-requires, blank-binding-requires
     (λ c. collect-start (c .blank-binding .ensures) (bind-start (r (c .before .before)) (c .before .before .args .id) (row (c .before .before)) (c .before .at-most .ensures)))  -- loop-holds
-    (λ c. omega arith)  -- element-copy-out-if1
-    (λ c. omega arith)  -- mul-if1
-    (λ c. omega arith)  -- element-copy-out-if1-2
-    (λ c. omega arith)  -- mul-t25
-    (λ c. omega arith)  -- element-copy-out-t28
-    (λ c. omega arith)  -- mul-t29
-    (λ c. omega arith)  -- element-copy-out-t32
-    (λ c κs. search needs)  -- resolve-in-requires
-    (λ c. search needs)  -- enum-known-p
-    (λ c. search needs)  -- enum-told
+    (λ c. omega arith) (λ c. omega arith) (λ c. omega arith) (λ c. omega arith)  -- element-copy-out-if1, mul-if1, element-copy-out-if1-2, mul-t25
+    (λ c. omega arith) (λ c. omega arith) (λ c. omega arith) (λ c κs. search needs)  -- element-copy-out-t28, mul-t29, element-copy-out-t32, resolve-in-requires
+    (λ c. search needs) (λ c. search needs)  -- enum-known-p, enum-told
     returns
-    (λ c κs. search needs)  -- binding-of-requires
-    (λ c. omega arith)  -- mul-bindings
-    (λ c. omega arith)  -- array-set-from-bindings
-    (λ c. omega arith)  -- add-n
-    (λ c. omega arith)  -- add-i
-    (λ c. omega arith)  -- loop-less
+    (λ c κs. search needs) (λ c. omega arith) (λ c. omega arith) (λ c. omega arith)  -- binding-of-requires, mul-bindings, array-set-from-bindings, add-n
+    (λ c. omega arith) (λ c. omega arith)  -- add-i, loop-less
     loop-again
     returns-2)

@@ -1,6 +1,5 @@
 -- `scans::resolution::target_table` meets its contract: the columns hold the table, and the flags what is asked of each node.
-use mathlib.Core.{List.map, Path._≡_, Path.ap}
-use borrow.{Author.Needs.needs}
+use Rattle.model.proofs.Logic.{_≡_, ap, map, needs}
 use Rattle.scans.specs.{declared.NodeFlags.NodeFlags}
 use Rattle.model.specs.{Records.isProviding}
 use Rattle.scans.proofs.{resolution.target_table.Statement.statement}
@@ -21,10 +20,6 @@ returns c =
     rw (w .declaration-columns .ensures .0, flagged w) at (c .target-in .ensures)
 
 pub target-table-spec : {M : Type 1} → statement M
-target-table-spec =
-    tie.close
-    (tie.spec
-    (λ c κs. search needs)  -- node-flags-requires
-    (λ c κs. search needs)  -- declaration-columns-requires
-    (λ c κs. search needs)  -- target-in-requires
+target-table-spec = tie.close (tie.spec
+    (λ c κs. search needs) (λ c κs. search needs) (λ c κs. search needs)  -- node-flags-requires, declaration-columns-requires, target-in-requires
     returns)

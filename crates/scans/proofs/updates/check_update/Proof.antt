@@ -1,8 +1,5 @@
 -- `scans::updates::check_update` meets its contract: its tests are the row in order.
-use mathlib.Core.{Bool.Bool, Bool._&&_, Bool.not, List.List, List.[], List._∷_, Option.Option, Option.some, Path._∙_, Path._≡_, Path.ap, Path.sym}
-use native.Mathlib.{Omega.arith}
-use lib.{ListN.getD, ListN.take}
-use borrow.{Author.Needs.needs}
+use Rattle.model.proofs.Logic.{Bool, List, Option, [], _&&_, _∙_, _∷_, _≡_, ap, arith, getD, needs, not, some, sym, take}
 use Rattle.model.specs.{Answers.answer, Answers.checked, Lists.any, Records.blankNode, Records.isChildOf, Records.isConsistent, Records.parentIn, Refusals.Reply, Refusals.first, Refusals.orElse, Soundness.parentOk, Tables.present, UpdateNode.updateNodeTests, declared.Error.Error, declared.records.Node.Node}
 use Rattle.model.proofs.{Laws.Refusals.of-passed, Laws.Refusals.skip, Laws.Refusals.stop}
 use Rattle.loops.proofs.{Laws.Parents.node-below, Laws.Parents.node-past}
@@ -75,18 +72,14 @@ returns-6 c =
     answers (s (placed q)) _ (past (placed q) _ ∙ skip _ _ _ (parent (placed q) _ (q .before .if4 .left)) ∙ skip _ _ _ (child q _ (c .if5 .left)) ∙ of-passed [] tt)
 
 pub check-update-spec : {M : Type 1} → statement M
-check-update-spec =
-    tie.close
-    (tie.spec
+check-update-spec = tie.close (tie.spec
     (λ c κs. search needs)  -- at-most-requires
     returns
-    (λ c. search needs)  -- mul-old
-    (λ c. search needs)  -- array-copy-out-old
+    (λ c. search needs) (λ c. search needs)  -- mul-old, array-copy-out-old
     returns-2
     (λ c κs. search needs)  -- is-consistent-requires
     returns-3
-    (λ c κs. search needs)  -- parent-in-requires
-    (λ c κs. search needs)  -- parent-ok-requires
+    (λ c κs. search needs) (λ c κs. search needs)  -- parent-in-requires, parent-ok-requires
     returns-4
     (λ c κs. search needs)  -- has-child-requires
     returns-5

@@ -1,9 +1,5 @@
 -- `scans::updates::update_node` meets its contract: what check_update answers, then the links.
-use mathlib.Core.{Bool.Bool, List.List, List.[], List._++_, Option.Option, Path._∙_, Path._≡_, Path.ap, Path.sym}
-use Prim.Native.{Nat._-_}
-use native.Mathlib.{Omega.arith}
-use lib.{ListN.take}
-use borrow.{Author.Needs.needs}
+use Rattle.model.proofs.Logic.{Bool, List, Option, [], _++_, _-_, _∙_, _≡_, ap, arith, needs, sym, take}
 use Rattle.model.specs.{Answers.answer, Lists.any, Records.blankLink, Refusals.Reply, Refusals.first, Refusals.orElse, UpdateNode.blocks, UpdateNode.updateNodeTests, declared.Answer.Answer, declared.Error.Error}
 use Rattle.model.proofs.{Laws.Refusals.done-passed, Laws.Refusals.of-passed, Laws.Refusals.passed-first, Laws.Refusals.refused-among, Laws.Refusals.skip, Laws.Refusals.stop}
 use Rattle.loops.proofs.{Laws.Scanning.Seeking, Laws.Scanning.seek-end, Laws.Scanning.seek-hit, Laws.Scanning.seek-on, Laws.Scanning.seek-start}
@@ -52,22 +48,13 @@ returns-3 c =
     sym (ap answered (passed l _ ∙ skip _ _ _ (sym (seek-end (l .loop .inv) (c .loop-test .left))) ∙ of-passed [] tt))
 
 pub update-node-spec : {M : Type 1} → statement M
-update-node-spec =
-    tie.close
-    (tie.spec
-    Inv-loop
-    μ-loop
-    (λ c κs. search needs)  -- check-update-requires
-    (λ c. search needs)  -- enum-known-checked
+update-node-spec = tie.close (tie.spec Inv-loop μ-loop
+    (λ c κs. search needs) (λ c. search needs)  -- check-update-requires, enum-known-checked
     returns
-    (λ c. search needs)  -- enum-told
-    (λ c κs. search needs)  -- at-most-requires
+    (λ c. search needs) (λ c κs. search needs)  -- enum-told, at-most-requires
     (λ c. seek-start (omega arith) (c .at-most .ensures))  -- loop-holds
-    (λ c. omega arith)  -- mul-l
-    (λ c. omega arith)  -- array-copy-out-l
-    (λ c κs. search needs)  -- blocks-requires
+    (λ c. omega arith) (λ c. omega arith) (λ c κs. search needs)  -- mul-l, array-copy-out-l, blocks-requires
     returns-2
-    (λ c. omega arith)  -- add-i
-    (λ c. omega arith)  -- loop-less
+    (λ c. omega arith) (λ c. omega arith)  -- add-i, loop-less
     (λ c. seek-on (search) blankLink (omega arith) (cc))  -- loop-again
     returns-3)

@@ -1,9 +1,5 @@
 -- `soundness::nodes::nodes_ok` meets its contract. What is left of the nodes answers as the whole does; each column holds its flag of the nodes below the place reached.
-use mathlib.Core.{Bool.Bool, Bool._&&_, Bool.false, Bool.true, List.List, Logic.⊎-elim, Path._∙_, Path._≡_, Path.ap, Path.refl, Path.sym}
-use Prim.Native.{Nat._-_, Nat._≤_, Nat.ℕ}
-use native.Mathlib.{Omega.arith}
-use lib.{ListN.drop, ListN.getD, ListN.take}
-use borrow.{Author.Needs.needs, Author.Tests.not-false, Author.Tests.not-true}
+use Rattle.model.proofs.Logic.{Bool, List, _&&_, _-_, _∙_, _≡_, _≤_, ap, arith, drop, false, getD, needs, not-false, not-true, refl, sym, take, true, ℕ, ⊎-elim}
 use Rattle.model.specs.{Lists._⇒_, Lists.all, Lists.allAt, Records.blankNode, Records.isBlankNode, Records.isConsistent, Records.isInstalled, Records.isServing, Records.parentIn, Soundness.nodeOk, Soundness.parentOk, declared.records.Node.Node}
 use Rattle.model.proofs.{Laws.Arrays.whole-array, Laws.Blanks.blank-node, Laws.Booleans.clash}
 use Rattle.loops.proofs.{Laws.Filled.Begun, Laws.Filled.begun-next, Laws.Filled.begun-start, Laws.Filled.begun-whole, Laws.Parents.parent-early, Laws.Parents.parent-late, Laws.Scan.drop-most, Laws.Scanning.Joining, Laws.Scanning.TestingAt, Laws.Scanning.join-end, Laws.Scanning.join-hit, Laws.Scanning.join-pass, Laws.Scanning.join-start, Laws.Scanning.testAt-end, Laws.Scanning.testAt-hit, Laws.Scanning.testAt-on, Laws.Scanning.testAt-start}
@@ -127,40 +123,23 @@ returns-5 c =
     (rw (← (c .before .loop2 .inv .0)) blank, λ _. (begun-whole (k .inv .2) (omega arith) x refl whole, begun-whole (k .inv .3) (omega arith) x refl whole, begun-whole (k .inv .4) (omega arith) x refl whole))
 
 pub nodes-ok-spec : {M : Type 1} → statement M
-nodes-ok-spec =
-    tie.close
-    (tie.spec
-    Inv-loop
-    μ-loop
+nodes-ok-spec = tie.close (tie.spec Inv-loop μ-loop
     Inv-loop2
     μ-loop2
     (λ c κs. search needs)  -- at-most-requires
     (λ c. let p = c .before .pre in (omega arith, testAt-start (omega arith) (c .at-most .ensures), begun-start (p .0), begun-start (p .1), begun-start (p .2)))  -- loop-holds
-    (λ c. omega arith)  -- mul-node
-    (λ c. omega arith)  -- array-copy-out-node
-    (λ c κs. search needs)  -- is-consistent-requires
+    (λ c. omega arith) (λ c. omega arith) (λ c κs. search needs)  -- mul-node, array-copy-out-node, is-consistent-requires
     (λ c. fails _ (testAt-hit (c .before .before .before .before .loop .inv .1) blankNode (omega arith) (node-ok _ _ _ (c .before .is-consistent .ensures) (not-true _ (c .if1 .taken)) refl refl)))  -- returns
-    (λ c κs. search needs)  -- parent-in-requires
-    (λ c. search needs)  -- enum-known-parent
+    (λ c κs. search needs) (λ c. search needs)  -- parent-in-requires, enum-known-parent
     returns-2
-    (λ c. omega arith)  -- mul-above
-    (λ c. omega arith)  -- array-copy-out-above
+    (λ c. omega arith) (λ c. omega arith)  -- mul-above, array-copy-out-above
     returns-3
-    (λ c. search needs)  -- enum-told
-    (λ c. omega arith)  -- element-write-present
-    (λ c κs. search needs)  -- is-installed-requires
-    (λ c. omega arith)  -- element-write-installed
-    (λ c κs. search needs)  -- is-serving-requires
-    (λ c. omega arith)  -- element-write-serving
-    (λ c. omega arith)  -- add-i
-    (λ c. omega arith)  -- loop-less
+    (λ c. search needs) (λ c. omega arith) (λ c κs. search needs) (λ c. omega arith)  -- enum-told, element-write-present, is-installed-requires, element-write-installed
+    (λ c κs. search needs) (λ c. omega arith) (λ c. omega arith) (λ c. omega arith)  -- is-serving-requires, element-write-serving, add-i, loop-less
     loop-again
     (λ c. (testAt-end (c .before .loop .inv .1) (c .loop-test .left), join-start (omega arith) (m c .at-most .ensures) (at-end c) refl))  -- loop2-holds
-    (λ c. omega arith)  -- mul-node-2
-    (λ c. omega arith)  -- array-copy-out-node-2
-    (λ c κs. search needs)  -- is-blank-node-requires
+    (λ c. omega arith) (λ c. omega arith) (λ c κs. search needs)  -- mul-node-2, array-copy-out-node-2, is-blank-node-requires
     returns-4
-    (λ c. omega arith)  -- add-i-2
-    (λ c. omega arith)  -- loop2-less
+    (λ c. omega arith) (λ c. omega arith)  -- add-i-2, loop2-less
     loop2-again
     returns-5)

@@ -1,9 +1,5 @@
 -- `soundness::points::covered` meets its contract. What is left of the columns answers as the whole does, whatever the ports are and whichever links meet the dependencies.
-use mathlib.Core.{Bool.Bool, Bool._&&_, Bool.false, Bool.not, List.List, Path._∙_, Path._≡_, Path.ap, Path.sym}
-use Prim.Native.{Nat._-_, Nat._<_, Nat.ℕ}
-use native.Mathlib.{Omega.arith}
-use lib.{ListN.getD, ListN.take}
-use borrow.{Author.Needs.needs}
+use Rattle.model.proofs.Logic.{Bool, List, _&&_, _-_, _<_, _∙_, _≡_, ap, arith, false, getD, needs, not, sym, take, ℕ}
 use Rattle.model.specs.{Lists.all, Lists.any, Soundness.isCovered, declared.records.Link.Link}
 use Rattle.loops.proofs.{Laws.Marking.met-covered, Laws.Scanning.Testing, Laws.Scanning.test-end, Laws.Scanning.test-hit, Laws.Scanning.test-on, Laws.Scanning.test-start}
 use Rattle.loops.specs.{Columns.declarationAt, Columns.declarationsOf, Columns.flag, Columns.rowsFrom, Marks.meets}
@@ -60,20 +56,12 @@ unfolding declarationsOf
 returns-2 c = λ key realm ls h. test-end (c .before .loop .inv key realm ls h) (c .loop-test .left)
 
 pub covered-spec : {M : Type 1} → statement M
-covered-spec =
-    tie.close
-    (tie.spec
-    Inv-loop
-    μ-loop
+covered-spec = tie.close (tie.spec Inv-loop μ-loop
     (λ c κs. search needs)  -- at-most-requires
     (λ c. λ key realm ls h. test-start (c .at-most .ensures))  -- loop-holds
-    (λ c. omega arith)  -- mul-o
-    (λ c. omega arith)  -- element-copy-out-o
-    (λ c κs. search needs)  -- flag-at-requires
-    (λ c. omega arith)  -- element-copy-out-if1
+    (λ c. omega arith) (λ c. omega arith) (λ c κs. search needs) (λ c. omega arith)  -- mul-o, element-copy-out-o, flag-at-requires, element-copy-out-if1
     (λ c. omega arith)  -- element-copy-out-if1-2
     returns
-    (λ c. omega arith)  -- add-i
-    (λ c. omega arith)  -- loop-less
+    (λ c. omega arith) (λ c. omega arith)  -- add-i, loop-less
     loop-again
     returns-2)

@@ -1,8 +1,5 @@
 -- `soundness::points::declared` meets its contract. What is left of the chain answers as the columns do.
-use mathlib.Core.{Path._∙_, Path.sym}
-use native.Mathlib.{Omega.arith}
-use lib.{ListN.take}
-use borrow.{Author.Needs.needs}
+use Rattle.model.proofs.Logic.{_∙_, arith, needs, sym, take}
 use Rattle.model.specs.{Lists.any, Soundness.isDeclaration}
 use Rattle.loops.proofs.{Laws.Chains.Walk, Laws.Chains.only-declaration, Laws.Chains.walk-end, Laws.Chains.walk-hit, Laws.Chains.walk-less, Laws.Chains.walk-next, Laws.Chains.walk-start}
 use Rattle.loops.specs.{Chains.bucketAt, Columns.declarationAt, Columns.declarationsOf, Columns.rowsFrom}
@@ -38,26 +35,13 @@ unfolding declarationsOf
 returns-2 c = search walk-end
 
 pub declared-spec : {M : Type 1} → statement M
-declared-spec =
-    tie.close
-    (tie.spec
-    Inv-loop
-    μ-loop
-    (λ c κs. search needs)  -- bucket-of-requires
-    (λ c. omega arith)  -- mul-c
-    (λ c. omega arith)  -- element-copy-out-c
+declared-spec = tie.close (tie.spec Inv-loop μ-loop
+    (λ c κs. search needs) (λ c. omega arith) (λ c. omega arith)  -- bucket-of-requires, mul-c, element-copy-out-c
     loop-holds
-    (λ c. omega arith)  -- sub-i
-    (λ c. omega arith)  -- mul-same
-    (λ c. omega arith)  -- element-copy-out-same
-    (λ c. omega arith)  -- mul-same-2
-    (λ c. omega arith)  -- element-copy-out-same-2
-    (λ c. omega arith)  -- mul-if1
-    (λ c. omega arith)  -- element-copy-out-if1
-    (λ c. omega arith)  -- element-copy-out-if1-2
+    (λ c. omega arith) (λ c. omega arith) (λ c. omega arith) (λ c. omega arith)  -- sub-i, mul-same, element-copy-out-same, mul-same-2
+    (λ c. omega arith) (λ c. omega arith) (λ c. omega arith) (λ c. omega arith)  -- element-copy-out-same-2, mul-if1, element-copy-out-if1, element-copy-out-if1-2
     returns
-    (λ c. omega arith)  -- mul-c-2
-    (λ c. omega arith)  -- element-copy-out-c-2
+    (λ c. omega arith) (λ c. omega arith)  -- mul-c-2, element-copy-out-c-2
     (λ c. search walk-less)  -- loop-less
     loop-again
     returns-2)

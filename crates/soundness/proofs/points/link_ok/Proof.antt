@@ -1,8 +1,5 @@
 -- `soundness::points::link_ok` meets its contract.
-use mathlib.Core.{Bool.Bool, Bool._&&_, Bool.false, Bool.not, Bool.true, List.List, Path._∙_, Path._≡_, Path.ap, Path.refl, Path.sym}
-use Prim.Native.{Nat._<_, Nat.ℕ}
-use lib.{ListN.getD, ListN.length-set, ListN.set, ListN.take}
-use borrow.{Author.Needs.needs, Author.Tests.ltb-true, Author.Tests.not-false, Author.Tests.not-true}
+use Rattle.model.proofs.Logic.{Bool, List, _&&_, _<_, _∙_, _≡_, ap, false, getD, length-set, ltb-true, needs, not, not-false, not-true, refl, set, sym, take, true, ℕ}
 use Rattle.model.specs.{Records.consumerIn, Records.portIn, Records.providerIn, Soundness.declares, declared.records.Declaration.Declaration, declared.records.Link.Link}
 use Rattle.model.proofs.{Laws.Booleans.and-l, Laws.Booleans.and-r, Laws.Booleans.clash}
 use Rattle.loops.proofs.{Laws.Marking.dead-marked, Laws.Marking.dead-meets, Laws.Marking.dead-ok, Laws.Marking.ends-fail, Laws.Marking.ends-pass, Laws.Marking.live-marked, Laws.Marking.live-meets}
@@ -100,18 +97,12 @@ returns-3 c =
     )
 
 pub link-ok-spec : {M : Type 1} → statement M
-link-ok-spec =
-    tie.close
-    (tie.spec
+link-ok-spec = tie.close (tie.spec
     returns
-    (λ c κs. search needs)  -- consumer-in-requires
-    (λ c κs. search needs)  -- provider-in-requires
-    (λ c κs. search needs)  -- flag-at-requires
+    (λ c κs. search needs) (λ c κs. search needs) (λ c κs. search needs)  -- consumer-in-requires, provider-in-requires, flag-at-requires
     (λ c κs. search needs)  -- flag-at-requires-2
     returns-2
-    (λ c κs. search needs)  -- port-in-requires
-    (λ c κs. search needs)  -- meet-requires
-    (λ c κs. search needs)  -- declared-requires
+    (λ c κs. search needs) (λ c κs. search needs) (λ c κs. search needs)  -- port-in-requires, meet-requires, declared-requires
     (λ c. provider-below (c .before .before .before .before))  -- element-write-seen
     (λ c. consumer-below (c .before .before .before .before))  -- element-copy-out-result
     returns-3)

@@ -1,9 +1,5 @@
 -- `soundness::points::links_ok` meets its contract. What is left of the links, with the marks so far, answers as the whole does; the marks on dependencies tell what the links so far meet.
-use mathlib.Core.{Bool.Bool, Bool._&&_, Bool._||_, Bool.false, Bool.true, List.List, List._∷_, Path._∙_, Path._≡_, Path.ap, Path.refl, Path.sym}
-use Prim.Native.{Nat._+_, Nat._-_, Nat._<_, Nat._≤_, Nat.ℕ}
-use native.Mathlib.{Numerals.add-one, Omega.arith}
-use lib.{ListN.drop, ListN.getD, ListN.getD-replicate, ListN.length, ListN.take, Seq.slice}
-use borrow.{Author.Needs.needs, Author.Tests.not-false, Author.Tests.not-true}
+use Rattle.model.proofs.Logic.{Bool, List, _&&_, _+_, _-_, _<_, _||_, _∙_, _∷_, _≡_, _≤_, add-one, ap, arith, drop, false, getD, getD-replicate, length, needs, not-false, not-true, refl, slice, sym, take, true, ℕ}
 use Rattle.model.specs.{Lists.all, Lists.any, Records.blankLink, Records.isBlankLink, Records.providerIn, Soundness.linkOk, Soundness.ordered, declared.records.Declaration.Declaration, declared.records.Link.Link}
 use Rattle.model.proofs.{Laws.Booleans.clash}
 use Rattle.loops.proofs.{Laws.Chains.any-more, Laws.Columns.rows-most, Laws.Marking.leftToPass, Laws.Marking.mark-none, Laws.Marking.pass-done, Laws.Marking.pass-hit, Laws.Marking.pass-next, Laws.Marking.provider-below, Laws.Scan.below-most, Laws.Scan.part-done, Laws.Scan.part-next, Laws.Scan.take-most, Laws.Scanning.Joining, Laws.Scanning.join-end, Laws.Scanning.join-on, Laws.Scanning.join-start}
@@ -150,26 +146,18 @@ returns-2 c =
     )
 
 pub links-ok-spec : {M : Type 1} → statement M
-links-ok-spec =
-    tie.close
+links-ok-spec = tie.close
     (tie.spec Inv-loop μ-loop Inv-loop2 μ-loop2
-    (λ c κs. search needs)  -- at-most-requires
-    (λ c κs. search needs)  -- chain-declarations-requires
-    (λ c κs. search needs)  -- at-most-requires-2
+    (λ c κs. search needs) (λ c κs. search needs) (λ c κs. search needs)  -- at-most-requires, chain-declarations-requires, at-most-requires-2
     loop-holds
-    (λ c. omega arith)  -- mul-l
-    (λ c. omega arith)  -- array-copy-out-l
+    (λ c. omega arith) (λ c. omega arith)  -- mul-l, array-copy-out-l
     link-ok-requires
     returns
-    (λ c. omega arith)  -- add-i
-    (λ c. omega arith)  -- loop-less
+    (λ c. omega arith) (λ c. omega arith)  -- add-i, loop-less
     loop-again
     (λ c κs. search needs)  -- blank-link-requires
     loop2-holds
-    (λ c. omega arith)  -- mul-l-2
-    (λ c. omega arith)  -- array-copy-out-l-2
-    (λ c κs. search needs)  -- either-link-requires
-    (λ c. omega arith)  -- add-i-2
+    (λ c. omega arith) (λ c. omega arith) (λ c κs. search needs) (λ c. omega arith)  -- mul-l-2, array-copy-out-l-2, either-link-requires, add-i-2
     (λ c. omega arith)  -- loop2-less
     loop2-again
     (λ c κs. search needs)  -- is-blank-link-requires

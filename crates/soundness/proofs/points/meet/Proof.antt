@@ -1,9 +1,5 @@
 -- `soundness::points::meet` meets its contract. What is left of the chain, or a dependency found, answers as the columns do; the entries walked are marked.
-use mathlib.Core.{Bool.false, Logic.⊎-elim, Path._∙_, Path.sym}
-use Prim.Native.{Nat._-_}
-use native.Mathlib.{Omega.arith}
-use lib.{ListN.take}
-use borrow.{Author.Needs.needs}
+use Rattle.model.proofs.Logic.{_-_, _∙_, arith, false, needs, sym, take, ⊎-elim}
 use Rattle.model.specs.{Lists.any, Soundness.isDeclaration}
 use Rattle.loops.proofs.{Laws.Chains.Meeting, Laws.Chains.is-dependency, Laws.Chains.meet-end, Laws.Chains.meet-hit, Laws.Chains.meet-less, Laws.Chains.meet-miss, Laws.Chains.meet-start, Laws.Chains.only-declaration}
 use Rattle.loops.specs.{Chains.bucketAt, Columns.declarationAt, Columns.declarationsOf, Columns.rowsFrom}
@@ -50,26 +46,12 @@ returns c =
     (meet-end m (c .loop-test .left), m .marks .size ∙ c .before .before .before .before .pre .1, λ i l. m .marks .after i (omega arith) l)
 
 pub meet-spec : {M : Type 1} → statement M
-meet-spec =
-    tie.close
-    (tie.spec
-    Inv-loop
-    μ-loop
-    (λ c κs. search needs)  -- bucket-of-requires
-    (λ c. omega arith)  -- mul-c
-    (λ c. omega arith)  -- element-copy-out-c
+meet-spec = tie.close (tie.spec Inv-loop μ-loop
+    (λ c κs. search needs) (λ c. omega arith) (λ c. omega arith)  -- bucket-of-requires, mul-c, element-copy-out-c
     loop-holds
-    (λ c. omega arith)  -- sub-i
-    (λ c. omega arith)  -- mul-same
-    (λ c. omega arith)  -- element-copy-out-same
-    (λ c. omega arith)  -- mul-same-2
-    (λ c. omega arith)  -- element-copy-out-same-2
-    (λ c. omega arith)  -- mul-if1
-    (λ c. omega arith)  -- element-copy-out-if1
-    (λ c. omega arith)  -- element-copy-out-if1-2
-    (λ c. omega arith)  -- element-write-met
-    (λ c. omega arith)  -- mul-c-2
-    (λ c. omega arith)  -- element-copy-out-c-2
+    (λ c. omega arith) (λ c. omega arith) (λ c. omega arith) (λ c. omega arith)  -- sub-i, mul-same, element-copy-out-same, mul-same-2
+    (λ c. omega arith) (λ c. omega arith) (λ c. omega arith) (λ c. omega arith)  -- element-copy-out-same-2, mul-if1, element-copy-out-if1, element-copy-out-if1-2
+    (λ c. omega arith) (λ c. omega arith) (λ c. omega arith)  -- element-write-met, mul-c-2, element-copy-out-c-2
     (λ c. search meet-less)  -- loop-less
     loop-again
     returns)

@@ -1,9 +1,5 @@
 -- `soundness::points::one_owner` meets its contract. What is left of the columns answers as the whole does.
-use mathlib.Core.{Bool.Bool, List.List, Path._∙_, Path._≡_, Path.sym}
-use Prim.Native.{Nat._-_, Nat.ℕ}
-use native.Mathlib.{Omega.arith}
-use lib.{ListN.take}
-use borrow.{Author.Needs.needs, Author.Tests.not-false, Author.Tests.not-true}
+use Rattle.model.proofs.Logic.{Bool, List, _-_, _∙_, _≡_, arith, needs, not-false, not-true, sym, take, ℕ}
 use Rattle.model.specs.{Lists.all, Soundness.sameOwner, declared.records.Declaration.Declaration}
 use Rattle.loops.proofs.{Laws.Columns.rows-most, Laws.Scanning.Testing, Laws.Scanning.test-end, Laws.Scanning.test-hit, Laws.Scanning.test-on, Laws.Scanning.test-start}
 use Rattle.loops.specs.{Columns.declarationAt, Columns.declarationsOf, Columns.flag, Columns.rowsFrom}
@@ -60,25 +56,14 @@ unfolding declarationsOf
 returns-2 c = search test-end
 
 pub one-owner-spec : {M : Type 1} → statement M
-one-owner-spec =
-    tie.close
-    (tie.spec
-    Inv-loop
-    μ-loop
-    (λ c κs. search needs)  -- at-most-requires
-    (λ c κs. search needs)  -- chain-ports-requires
+one-owner-spec = tie.close (tie.spec Inv-loop μ-loop
+    (λ c κs. search needs) (λ c κs. search needs)  -- at-most-requires, chain-ports-requires
     (λ c. test-start (c .before .before .before .at-most .ensures))  -- loop-holds
-    (λ c. omega arith)  -- mul-t17
-    (λ c. omega arith)  -- element-copy-out-t20
-    (λ c. omega arith)  -- mul-t21
-    (λ c. omega arith)  -- element-copy-out-t24
-    (λ c. omega arith)  -- mul-declaration-of
-    (λ c. omega arith)  -- element-copy-out-declaration-of
-    (λ c. omega arith)  -- element-copy-out-declaration-of-2
+    (λ c. omega arith) (λ c. omega arith) (λ c. omega arith) (λ c. omega arith)  -- mul-t17, element-copy-out-t20, mul-t21, element-copy-out-t24
+    (λ c. omega arith) (λ c. omega arith) (λ c. omega arith)  -- mul-declaration-of, element-copy-out-declaration-of, element-copy-out-declaration-of-2
     (λ c κs. search needs)  -- declaration-of-requires
     (λ c κs. turn (c .before .before) .before .chain-ports .ensures)  -- one-provider-requires
     returns
-    (λ c. omega arith)  -- add-i
-    (λ c. omega arith)  -- loop-less
+    (λ c. omega arith) (λ c. omega arith)  -- add-i, loop-less
     (λ c. test-on (search) (omega arith) (sym (tells (c .before)) ∙ not-false _ (c .if1 .left)))  -- loop-again
     returns-2)

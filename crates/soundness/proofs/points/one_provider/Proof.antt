@@ -1,9 +1,5 @@
 -- `soundness::points::one_provider` meets its contract. What is left of the chain answers as the columns do.
-use mathlib.Core.{Path._≡_, Bool.Bool, Bool._&&_, Bool.not, List.[], Path._∙_, Path.ap, Path.sym}
-use Prim.Native.{Nat.ℕ}
-use native.Mathlib.{Omega.arith}
-use lib.{ListN.take}
-use borrow.{Author.Needs.needs, Author.Tests.not-true}
+use Rattle.model.proofs.Logic.{Bool, [], _&&_, _∙_, _≡_, ap, arith, needs, not, not-true, sym, take, ℕ}
 use Rattle.model.specs.{Lists.any, Records.declaredPort, Records.ownerIn}
 use Rattle.loops.proofs.{Laws.Chains.Walk, Laws.Chains.isRival, Laws.Chains.no-rival, Laws.Chains.not-offered, Laws.Chains.only-rival, Laws.Chains.rival, Laws.Chains.walk-end, Laws.Chains.walk-hit, Laws.Chains.walk-less, Laws.Chains.walk-next, Laws.Chains.walk-start}
 use Rattle.loops.specs.{Chains.bucketAt, Columns.declarationAt, Columns.declarationsOf, Columns.flag, Columns.rowsFrom}
@@ -82,31 +78,15 @@ returns-3 c =
     ap not (walk-end (c .before .loop .inv) (c .loop-test .left)) ∙ no-rival (here (u .before)) (s (u .before) .args .d) _
 
 pub one-provider-spec : {M : Type 1} → statement M
-one-provider-spec =
-    tie.close
-    (tie.spec
-    Inv-loop
-    μ-loop
-    (λ c κs. search needs)  -- declared-port-requires
-    (λ c κs. search needs)  -- owner-in-requires
-    (λ c κs. search needs)  -- flag-at-requires
+one-provider-spec = tie.close (tie.spec Inv-loop μ-loop
+    (λ c κs. search needs) (λ c κs. search needs) (λ c κs. search needs)  -- declared-port-requires, owner-in-requires, flag-at-requires
     returns
-    (λ c κs. search needs)  -- bucket-of-requires
-    (λ c. omega arith)  -- mul-c
-    (λ c. omega arith)  -- element-copy-out-c
+    (λ c κs. search needs) (λ c. omega arith) (λ c. omega arith)  -- bucket-of-requires, mul-c, element-copy-out-c
     loop-holds
-    (λ c. omega arith)  -- sub-i
-    (λ c. omega arith)  -- mul-e
-    (λ c. omega arith)  -- element-copy-out-e
-    (λ c κs. search needs)  -- flag-at-requires-2
-    (λ c. omega arith)  -- mul-same
-    (λ c. omega arith)  -- element-copy-out-same
-    (λ c. omega arith)  -- mul-same-2
-    (λ c. omega arith)  -- element-copy-out-same-2
-    (λ c. omega arith)  -- element-copy-out-rivals
+    (λ c. omega arith) (λ c. omega arith) (λ c. omega arith) (λ c κs. search needs) (λ c. omega arith)  -- sub-i, mul-e, element-copy-out-e, flag-at-requires-2, mul-same
+    (λ c. omega arith) (λ c. omega arith) (λ c. omega arith) (λ c. omega arith)  -- element-copy-out-same, mul-same-2, element-copy-out-same-2, element-copy-out-rivals
     returns-2
-    (λ c. omega arith)  -- mul-c-2
-    (λ c. omega arith)  -- element-copy-out-c-2
+    (λ c. omega arith) (λ c. omega arith)  -- mul-c-2, element-copy-out-c-2
     (λ c. search walk-less)  -- loop-less
     loop-again
     returns-3)

@@ -1,9 +1,5 @@
 -- `soundness::points::owners_issued` meets its contract. What is left of the column answers as the whole does, whatever the other columns are.
-use mathlib.Core.{Bool.Bool, List.List}
-use Prim.Native.{Nat._-_, Nat.ℕ}
-use native.Mathlib.{Omega.arith}
-use lib.{ListN.take}
-use borrow.{Author.Needs.needs, Author.Tests.le-ltb, Author.Tests.lt-ltb}
+use Rattle.model.proofs.Logic.{Bool, List, _-_, arith, le-ltb, lt-ltb, needs, take, ℕ}
 use Rattle.model.specs.{Lists.all, Soundness.hasOwner}
 use Rattle.loops.proofs.{Laws.Scanning.Testing, Laws.Scanning.test-end, Laws.Scanning.test-hit, Laws.Scanning.test-on, Laws.Scanning.test-start}
 use Rattle.loops.specs.{Columns.declarationAt, Columns.declarationsOf, Columns.rowsFrom}
@@ -33,17 +29,11 @@ unfolding declarationsOf
 returns-2 c = λ key realm provides. test-end (c .before .loop .inv key realm provides) (c .loop-test .left)
 
 pub owners-issued-spec : {M : Type 1} → statement M
-owners-issued-spec =
-    tie.close
-    (tie.spec
-    Inv-loop
-    μ-loop
+owners-issued-spec = tie.close (tie.spec Inv-loop μ-loop
     (λ c κs. search needs)  -- at-most-requires
     (λ c. λ key realm provides. test-start (c .at-most .ensures))  -- loop-holds
-    (λ c. omega arith)  -- mul-if1
-    (λ c. omega arith)  -- element-copy-out-if1
+    (λ c. omega arith) (λ c. omega arith)  -- mul-if1, element-copy-out-if1
     returns
-    (λ c. omega arith)  -- add-i
-    (λ c. omega arith)  -- loop-less
+    (λ c. omega arith) (λ c. omega arith)  -- add-i, loop-less
     loop-again
     returns-2)

@@ -1,8 +1,5 @@
 -- `text::answers::identities` is safe and ends. The index is below the size at each read.
-use Prim.Native.{Nat._-_}
-use mathlib.Core.{Path._≡_}
-use borrow.{Author.Needs.needs}
-use lib.{ListN.length}
+use Rattle.model.proofs.Logic.{_-_, _≡_, length, needs}
 use Rattle.text.proofs.{answers.identities.Statement.statement}
 use Rattle.text.proofs.answers.identities.Tie as tie
 
@@ -13,19 +10,8 @@ abbrev μ-loop : tie.MeasureT-loop
 μ-loop out₀ at answer end at₀ i₀ out at' i = end - i
 
 pub identities-spec : {M : Type 1} → statement M
-identities-spec =
-    tie.close
-    (tie.spec
-    Inv-loop
-    μ-loop
-    (λ c κs. search needs)  -- at-most-requires
-    (λ c κs. search needs)  -- list-requires
-    (λ c. search needs)  -- loop-holds
-    (λ c. search needs)  -- mul-id
-    (λ c. search needs)  -- element-copy-out-id
-    (λ c κs. search needs)  -- field-requires
-    (λ c. search needs)  -- add-i
-    (λ c. search needs)  -- loop-less
-    (λ c. search needs)  -- loop-again
-    (λ c. search needs)  -- same-length
+identities-spec = tie.close (tie.spec Inv-loop μ-loop
+    (λ c κs. search needs) (λ c κs. search needs) (λ c. search needs) (λ c. search needs)  -- at-most-requires, list-requires, loop-holds, mul-id
+    (λ c. search needs) (λ c κs. search needs) (λ c. search needs) (λ c. search needs)  -- element-copy-out-id, field-requires, add-i, loop-less
+    (λ c. search needs) (λ c. search needs)  -- loop-again, same-length
     (λ c. search needs))  -- returns

@@ -1,8 +1,5 @@
 -- `text::answers::target` is safe and ends. The index is below the size at each read.
-use Prim.Native.{Nat._-_}
-use mathlib.Core.{Path._≡_}
-use borrow.{Author.Needs.needs}
-use lib.{ListN.length}
+use Rattle.model.proofs.Logic.{_-_, _≡_, length, needs}
 use Rattle.text.proofs.{answers.target.Statement.statement}
 use Rattle.text.proofs.answers.target.Tie as tie
 
@@ -13,23 +10,9 @@ abbrev μ-loop : tie.MeasureT-loop
 μ-loop out₀ at answer end at₀ i₀ out at' i = end - i
 
 pub target-spec : {M : Type 1} → statement M
-target-spec =
-    tie.close
-    (tie.spec
-    Inv-loop
-    μ-loop
-    (λ c. search needs)  -- slice-aggregate-bytes
-    (λ c κs. search needs)  -- bytes-requires
-    (λ c. search needs)  -- same-length
-    (λ c. search needs)  -- returns
-    (λ c κs. search needs)  -- at-most-requires
-    (λ c κs. search needs)  -- list-requires
-    (λ c. search needs)  -- loop-holds
-    (λ c. search needs)  -- mul-binding
-    (λ c. search needs)  -- element-copy-out-binding
-    (λ c κs. search needs)  -- binding-requires
-    (λ c. search needs)  -- add-i
-    (λ c. search needs)  -- loop-less
-    (λ c. search needs)  -- loop-again
-    (λ c. search needs)  -- same-length-2
+target-spec = tie.close (tie.spec Inv-loop μ-loop
+    (λ c. search needs) (λ c κs. search needs) (λ c. search needs) (λ c. search needs)  -- slice-aggregate-bytes, bytes-requires, same-length, returns
+    (λ c κs. search needs) (λ c κs. search needs) (λ c. search needs) (λ c. search needs)  -- at-most-requires, list-requires, loop-holds, mul-binding
+    (λ c. search needs) (λ c κs. search needs) (λ c. search needs) (λ c. search needs)  -- element-copy-out-binding, binding-requires, add-i, loop-less
+    (λ c. search needs) (λ c. search needs)  -- loop-again, same-length-2
     (λ c. search needs))  -- returns-2

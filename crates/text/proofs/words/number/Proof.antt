@@ -1,7 +1,5 @@
 -- `text::words::number` is safe and ends: each turn passes a byte.
-use Prim.Native.{Nat._-_}
-use borrow.{Author.Needs.needs}
-use lib.{ListN.length}
+use Rattle.model.proofs.Logic.{_-_, length, needs}
 use Rattle.text.proofs.{words.number.Statement.statement}
 use Rattle.text.proofs.words.number.Tie as tie
 
@@ -12,16 +10,7 @@ abbrev μ-loop : tie.MeasureT-loop
 μ-loop word value₀ known₀ i₀ value known i = length word - i
 
 pub number-spec : {M : Type 1} → statement M
-number-spec =
-    tie.close
-    (tie.spec
-    Inv-loop
-    μ-loop
-    (λ c. search needs)  -- loop-holds
-    (λ c. search needs)  -- shared-slice-read-digit
-    (λ c κs. search needs)  -- digit-requires
-    (λ c κs. search needs)  -- with-digit-requires
-    (λ c. search needs)  -- add-i
-    (λ c. search needs)  -- loop-less
-    (λ c. search needs)  -- loop-again
+number-spec = tie.close (tie.spec Inv-loop μ-loop
+    (λ c. search needs) (λ c. search needs) (λ c κs. search needs) (λ c κs. search needs)  -- loop-holds, shared-slice-read-digit, digit-requires, with-digit-requires
+    (λ c. search needs) (λ c. search needs) (λ c. search needs)  -- add-i, loop-less, loop-again
     (λ c. search needs))  -- returns

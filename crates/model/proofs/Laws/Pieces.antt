@@ -1,5 +1,5 @@
 -- The entry test, piece by piece: a piece that fails fails the whole, and the pieces together are the whole.
-use mathlib.Core.{Bool.Bool, Bool.false, Bool.true, Path._≡_, Path.refl}
+use Rattle.model.proofs.Logic.{Bool, _≡_, false, refl, true}
 use Rattle.model.proofs.{Laws.Booleans.Each, Laws.Booleans.and-l, Laws.Booleans.and-r, Laws.Booleans.clash, Laws.Booleans.each, Laws.Booleans.of-each}
 use Rattle.model.specs.{Layouts.Layout, Layouts.layoutTests, Layouts.soundKernel, Layouts.tablesOf, Lists.conj, Sizes.Sizes, Soundness.coverage, Soundness.safetyTests, Soundness.safetyWf, Soundness.wf}
 

@@ -1,7 +1,5 @@
 -- What the types of a kernel's arrays say of their lengths, as the logic has it of every kernel that a method receives.
-use mathlib.Core.{Path._≡_}
-use lib.{ListN.length, ListN.length-map}
-use borrow.{Fn.Kinds.GoodsP}
+use Rattle.model.proofs.Logic.{GoodsP, _≡_, length, length-map}
 use Rattle.model.specs.{Layouts.Sized, Sizes.listLimit, declared.PortList.PortList}
 use Rattle.kernel.specs.{Fields.layoutOf, declared.Kernel.Kernel}
 use Rattle.kernel.proofs.Kernel.sound.Kinds as kinds

@@ -1,5 +1,5 @@
 -- What an edit kept, in the struct that holds it.
-use mathlib.Core.{List.List, Path._≡_, Path.ap, Path.sym}
+use Rattle.model.proofs.Logic.{List, _≡_, ap, sym}
 use Rattle.edits.specs.{Kept.keptDeclarations, Kept.keptLinks, declared.KeptDeclarations.KeptDeclarations, declared.KeptLinks.KeptLinks}
 use Rattle.model.specs.{Records.blankDeclaration, Records.blankLink, declared.records.Declaration.Declaration, declared.records.Link.Link}
 use Rattle.layouts.proofs.{Laws.Anew.Holds}

@@ -1,7 +1,5 @@
 -- The subject of an accepted command after it: phase, retired, restoring, present, generation.
-use mathlib.Core.{Bool.cond, Bool.false, Bool.true, List.List, Option.none, Option.some, Path._∙_, Path._≡_, Path.ap, Path.refl}
-use Prim.Native.{Nat.suc, Nat.ℕ}
-use lib.{ListN.length}
+use Rattle.model.proofs.Logic.{List, _∙_, _≡_, ap, cond, false, length, none, refl, some, suc, true, ℕ}
 use Rattle.model.specs.{Commands.Command, Commands.step, Observers.cleanupStarted, Observers.contains, Observers.phase, Observers.retired, Records.newNode, Records.parentIn, Refusals.Reply, Refusals.accepted, Sizes.Sizes, Tables.Tables, Tables.nodeAt, Tables.present, declared.Parent.Parent, declared.Phase.Phase, declared.PortList.PortList, declared.records.Node.Node}
 use Rattle.model.proofs.{Laws.Booleans.not-f, Laws.Records.parent-read, Theorems.Upstream.Frames.field-kept, Theorems.Upstream.Frames.subject-after, Theorems.Upstream.Replies.accepted-step, Theorems.Upstream.Replies.accepts}
 

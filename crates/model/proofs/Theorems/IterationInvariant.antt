@@ -1,14 +1,10 @@
 -- What demand 3 adds to soundness, and that every command keeps it.
-use mathlib.Core.{Bool.Bool, Bool._&&_, Bool.and-false, Bool.cond, Bool.false, Bool.not, Bool.true, List.List, List.List·Memᴰ·eq-of-singleton, List.[], List._++_, List._∷_, List.append-nil, List.map, Logic._⊎_, Logic.inl, Logic.inr, Option.Option, Option.none, Option.some, Path._∙_, Path._≡_, Path.ap, Path.refl, Path.subst, Path.sym}
-use Prim.Native.{Nat._<_, Nat.ℕ}
-use native.Mathlib.{Decide.ℕ-discrete, Omega.arith}
-use lib.{Dec.eqb, ListN.length}
-use borrow.{Author.Tests.eq-eqb, Author.Tests.ne-eqb}
+use Rattle.model.proofs.Logic.{Bool, List, List·Memᴰ·eq-of-singleton, Option, [], _&&_, _++_, _<_, _∙_, _∷_, _≡_, _⊎_, and-false, ap, append-nil, arith, cond, eq-eqb, eqb, false, inl, inr, length, map, ne-eqb, none, not, refl, some, subst, sym, true, ℕ, ℕ-discrete}
 use Rattle.model.specs.{Commands.Command, Commands.report, Commands.result, Commands.runFrom, Commands.step, Commands.tests, Compaction.declarationsCompacted, Insertion.inserted, Interface.dependenciesConfigured, Interface.listed, Interface.own, Interface.provisionDeclared, Interface.provisionReleased, Iteration.begins, Iteration.lastFrom, Iteration.noted, Lifecycle.beginTests, Lifecycle.begun, Lifecycle.begunNode, Lifecycle.begunWith, Lifecycle.cleanupFinished, Lifecycle.phaseAt, Records.declaredPort, Records.dependency, Records.isInactive, Records.isRunning, Records.liveLink, Records.newNode, Records.ownerIn, Records.portOf, Records.provision, Records.restoredNode, Records.samePort, Refusals.accepted, Resolution.committed, Resolution.dependencyPorts, Resolution.isDependencyOf, Resolution.target, Sizes.Sizes, Soundness.isDeclaration, Soundness.sound, Tables.Tables, Tables.empty, Tables.nodeAt, Tables.notInactive, Tables.present, Tables.withDeclarations, Tables.withNode, declared.Binding.Binding, declared.Parent.Parent, declared.Port.Port, declared.PortList.PortList, declared.records.Declaration.Declaration, declared.records.Node.Node}
 use Rattle.model.proofs.{Laws.Booleans.and-l, Laws.Booleans.cases, Laws.Booleans.clash, Laws.Booleans.not-f, Laws.Booleans.not-t, Laws.Committed.committed-append, Laws.Committed.committed-compact, Laws.Committed.committed-dead, Laws.Committed.committed-idle, Laws.Committed.dependencyPorts-keep, Laws.Committed.dependencyPorts-more, Laws.Committed.fresh-mine, Laws.Committed.fresh-other, Laws.Committed.new-owner, Laws.Facts.Safe, Laws.Facts.Sound, Laws.Facts.facts, Laws.Lists.in-map, Laws.Lists.is-some, Laws.Nodes.at-set, Laws.Nodes.at-set-other, Laws.Nodes.at-snoc, Laws.Nodes.present-lt, Laws.Phases.loading-running, Laws.Phases.running-installed, Laws.Refusals.Passed, Laws.Refusals.step-cases, Laws.Resolution.Targeted, Laws.Resolution.bound-ports, Laws.Resolution.targeted, Theorems.Commands.step-sound}
 
 -- of a running component, what was noted at its last accepted begin is its committed; of an installed one, the ports of its live links are its dependency ports, both in order
-pub record Kept (T : Tables) (id : ℕ) (a : Option (List Binding)) : Type 0 where
+pub record IterationInvariant (T : Tables) (id : ℕ) (a : Option (List Binding)) : Type 0 where
   pub as-begun : isRunning (phaseAt T id) ≡ true → a ≡ some (committed (T .links) id)
   pub ports : notInactive (T .nodes) id ≡ true → map portOf (committed (T .links) id) ≡ dependencyPorts (T .declarations) id
 
@@ -21,7 +17,7 @@ Carried T U id =
     × (dependencyPorts (U .declarations) id ≡ dependencyPorts (T .declarations) id)
 
 -- a change that carries every component that is not Inactive after it
-kept-by : (T U : Tables) (id : ℕ) (a : Option (List Binding)) → Kept T id a → (notInactive (U .nodes) id ≡ true → Carried T U id) → Kept U id a
+kept-by : (T U : Tables) (id : ℕ) (a : Option (List Binding)) → IterationInvariant T id a → (notInactive (U .nodes) id ≡ true → Carried T U id) → IterationInvariant U id a
 kept-by T U id a k f = record {
   as-begun = λ r. let (i, x, y, z) = f (running-installed (phaseAt U id) r) in rw y (k .as-begun (x r));
   ports = λ r. let (i, x, y, z) = f r in rw (y, z) (k .ports i);
@@ -39,32 +35,32 @@ installed-present T id k r = go (cases (present (T .nodes) id))
     go (inl e) = e
     go (inr e) = clash _ (k .nodes id .absent-inactive e) (not-t _ r)
 
-module _ (S : Sizes) (T : Tables) (k : Sound S T) (id : ℕ) (a : Option (List Binding)) (q : Kept T id a) where
+module _ (S : Sizes) (T : Tables) (k : Sound S T) (id : ℕ) (a : Option (List Binding)) (q : IterationInvariant T id a) where
   -- one node anew, which is not Inactive, or runs, only if it did
-  node-kept : (j : ℕ) (n : Node) → present (T .nodes) j ≡ true → AsBefore T j n → Kept (withNode T j n) id a
+  node-kept : (j : ℕ) (n : Node) → present (T .nodes) j ≡ true → AsBefore T j n → IterationInvariant (withNode T j n) id a
   node-kept j n t f = kept-by T (withNode T j n) id a q (λ r. let (x, y) = at-set (AsBefore T) (T .nodes) j n (present-lt _ _ t) f (λ i x. (x, λ y. y)) id r in (x, y, refl, refl))
 
   -- a running node that stays installed
-  running-kept : (j : ℕ) (n : Node) → present (T .nodes) j ≡ true → isRunning (phaseAt T j) ≡ true → Kept (withNode T j n) id a
+  running-kept : (j : ℕ) (n : Node) → present (T .nodes) j ≡ true → isRunning (phaseAt T j) ≡ true → IterationInvariant (withNode T j n) id a
   running-kept j n t w = node-kept j n t (λ r. (running-installed (phaseAt T j) w, λ x. w))
 
-  cleanupFinished-kept : (j : ℕ) → present (T .nodes) j ≡ true → Kept (cleanupFinished T j) id a
+  cleanupFinished-kept : (j : ℕ) → present (T .nodes) j ≡ true → IterationInvariant (cleanupFinished T j) id a
   cleanupFinished-kept j t = kept-by T _ id a q (λ r.
       let other : Node → ℕ → Type 0 = λ m i. not (isInactive (m .phase)) ≡ true → (i ≡ j → ⊥) × (notInactive (T .nodes) i ≡ true) × (isRunning (m .phase) ≡ true → isRunning (phaseAt T i) ≡ true) in
       let (d, x, y) = at-set-other (λ i m. other m i) (T .nodes) j (restoredNode (nodeAt (T .nodes) j)) (present-lt _ _ t) (λ y. clash false y refl) (λ i ne y. (ne, y, λ z. z)) id r in
       (x, y, committed-dead (T .links) id j d, refl))
 
-  declarationsCompacted-kept : Kept (declarationsCompacted T) id a
+  declarationsCompacted-kept : IterationInvariant (declarationsCompacted T) id a
   declarationsCompacted-kept = kept-by T _ id a q (λ r. (r, λ x. x, refl, dependencyPorts-keep _ (T .declarations) id (λ d x y. rw y (installed-present T id (k .safe) r))))
 
-  provisionReleased-kept : (j : ℕ) (p : Port) → Kept (provisionReleased T j p) id a
+  provisionReleased-kept : (j : ℕ) (p : Port) → IterationInvariant (provisionReleased T j p) id a
   unfolding isDeclaration
   provisionReleased-kept j p = kept-by T _ id a q (λ r. (r, λ x. x, refl, dependencyPorts-keep _ (T .declarations) id (λ d x y. rw x (rw (and-false (eqb (ownerIn d) j && samePort (declaredPort d) p))))))
 
-  provisionDeclared-kept : (j : ℕ) (p : Port) → Kept (provisionDeclared T j p) id a
+  provisionDeclared-kept : (j : ℕ) (p : Port) → IterationInvariant (provisionDeclared T j p) id a
   provisionDeclared-kept j p = go (own T j p)
     where
-      go : (b : Bool) → Kept (withDeclarations T (cond b (T .declarations) (T .declarations ++ (provision j p ∷ [])))) id a
+      go : (b : Bool) → IterationInvariant (withDeclarations T (cond b (T .declarations) (T .declarations ++ (provision j p ∷ [])))) id a
       go true = q
       go false = kept-by T _ id a q (λ r. (
         r,
@@ -75,7 +71,7 @@ module _ (S : Sizes) (T : Tables) (k : Sound S T) (id : ℕ) (a : Option (List B
       ))
 
   -- an Inactive component's dependencies are another's
-  dependenciesConfigured-kept : (j : ℕ) (l : PortList) → isInactive (phaseAt T j) ≡ true → Kept (dependenciesConfigured T j l) id a
+  dependenciesConfigured-kept : (j : ℕ) (l : PortList) → isInactive (phaseAt T j) ≡ true → IterationInvariant (dependenciesConfigured T j l) id a
   unfolding isDependencyOf
   dependenciesConfigured-kept j l i = kept-by T _ id a q (λ r.
       let d : id ≡ j → ⊥ = λ e. clash {A = ⊥} (isInactive (phaseAt T j)) i (not-t _ (subst (λ (x : ℕ). notInactive (T .nodes) x ≡ true) e r)) in
@@ -85,19 +81,19 @@ module _ (S : Sizes) (T : Tables) (k : Sound S T) (id : ℕ) (a : Option (List B
       other : (z : Declaration) → (ownerIn z ≡ j → ⊥) → not (isDependencyOf j z) ≡ true
       other z f = rw (ne-eqb (ownerIn z) j f, and-false (not (z .provides)))
 
-  inserted-kept : (o : Parent) (ds ps : PortList) → Kept (inserted T o ds ps) id a
+  inserted-kept : (o : Parent) (ds ps : PortList) → IterationInvariant (inserted T o ds ps) id a
   inserted-kept o ds ps = kept-by T _ id a q (λ r.
       let (x, y) = at-snoc (AsBefore T) (T .nodes) (newNode o) (λ y. clash false y refl) (λ i y. (y, λ z. z)) id r in
       let l : id < length (T .nodes) = present-lt _ _ (installed-present T id (k .safe) x) in
       (x, y, refl, dependencyPorts-more (T .declarations) _ id (λ d m u v. let e : ownerIn d ≡ length (T .nodes) = new-owner (length (T .nodes)) (listed ds) (listed ps) d m in omega arith)))
 
   -- an accepted begin: of another component, and of this one
-  begun-other : (j : ℕ) (bs : List Binding) → present (T .nodes) j ≡ true → (id ≡ j → ⊥) → Kept (begunWith T j bs) id a
+  begun-other : (j : ℕ) (bs : List Binding) → present (T .nodes) j ≡ true → (id ≡ j → ⊥) → IterationInvariant (begunWith T j bs) id a
   begun-other j bs t d = kept-by T _ id a q (λ r.
       let (x, y) = at-set-other (λ i m. i ≡ id → AsBefore T i m) (T .nodes) j (begunNode (nodeAt (T .nodes) j)) (present-lt _ _ t) (λ e y. absurd (d (sym e))) (λ i ne e y. (y, λ z. z)) id refl r in
       (x, y, committed-append (T .links) (map (liveLink j) bs) id ∙ rw (fresh-other bs id j d) (append-nil (committed (T .links) id)), refl))
 
-  begun-same : (bs : List Binding) → Targeted T id bs → isInactive (phaseAt T id) ≡ true → Kept (begunWith T id bs) id (some bs)
+  begun-same : (bs : List Binding) → Targeted T id bs → isInactive (phaseAt T id) ≡ true → IterationInvariant (begunWith T id bs) id (some bs)
   begun-same bs t i = record { as-begun = λ r. rw mine; ports = λ r. rw mine (bound-ports _ _ bs (t .is-bound)) }
     where
       idle : notInactive (T .nodes) id ≡ false
@@ -106,19 +102,20 @@ module _ (S : Sizes) (T : Tables) (k : Sound S T) (id : ℕ) (a : Option (List B
       mine : committed (T .links ++ map (liveLink id) bs) id ≡ bs
       mine = rw (committed-append (T .links) (map (liveLink id) bs) id, committed-idle T id (k .safe) idle, fresh-mine bs id)
 
-  begun-kept : (j : ℕ) → Passed (beginTests S T j) → Kept (begun T j) id (cond (eqb j id && true) (target T id) a)
+  begun-kept : (j : ℕ) → Passed (beginTests S T j) → IterationInvariant (begun T j) id (cond (eqb j id && true) (target T id) a)
   begun-kept j p = let (bs, e) = is-some (target T j) (p .1 .1 .1 .1 .0) in rw e (go bs e (not-f _ (p .0)) (not-f _ (p .1 .0)) (ℕ-discrete j id))
     where
-      go : (bs : List Binding) → target T j ≡ some bs → present (T .nodes) j ≡ true → isInactive (phaseAt T j) ≡ true → Dec (j ≡ id) → Kept (begunWith T j bs) id (cond (eqb j id && true) (target T id) a)
+      go : (bs : List Binding) → target T j ≡ some bs → present (T .nodes) j ≡ true → isInactive (phaseAt T j) ≡ true
+          → Dec (j ≡ id) → IterationInvariant (begunWith T j bs) id (cond (eqb j id && true) (target T id) a)
       go bs e t i (no d) = rw (ne-eqb j id d) (begun-other j bs t (λ x. d (sym x)))
       go bs e t i (yes d) = rw (eq-eqb j id d, d, rw d at e) (begun-same bs (targeted T id bs (rw d at e)) (rw d at i))
 
 -- ---- every command
 
 pub result-kept :
-    (S : Sizes) (T : Tables) (k : Sound S T) (id : ℕ) (a : Option (List Binding)) (q : Kept T id a) (c : Command)
+    (S : Sizes) (T : Tables) (k : Sound S T) (id : ℕ) (a : Option (List Binding)) (q : IterationInvariant T id a) (c : Command)
     → Passed (tests S T c)
-    → Kept (result T c) id (cond (begins id c && accepted (report T c)) (target T id) a)
+    → IterationInvariant (result T c) id (cond (begins id c && accepted (report T c)) (target T id) a)
 unfolding begins
 result-kept S T k id a q (Command.insert o ds ps) p = inserted-kept S T k id a q o ds ps
 result-kept S T k id a q (Command.declareProvision j pt) p = provisionDeclared-kept S T k id a q j pt
@@ -136,16 +133,18 @@ result-kept S T k id a q Command.compactBindings p = kept-by T _ id a q (λ r. (
 result-kept S T k id a q Command.compactDeclarations p = declarationsCompacted-kept S T k id a q
 
 -- a refused command notes nothing, an accepted begin of this component its target
-pub step-kept : (S : Sizes) (T : Tables) (k : Sound S T) (id : ℕ) (a : Option (List Binding)) (c : Command) → Kept T id a → Kept ((step S T c) .tables) id (noted S T id c a)
+pub step-kept : (S : Sizes) (T : Tables) (k : Sound S T) (id : ℕ) (a : Option (List Binding)) (c : Command) → IterationInvariant T id a → IterationInvariant ((step S T c) .tables) id (noted S T id c a)
 unfolding noted
-step-kept S T k id a c q = step-cases (λ o. Kept (o .tables) id (cond (begins id c && accepted (o .reply)) (target T id) a)) S T c (λ e h. rw (and-false (begins id c)) q) (λ p. result-kept S T k id a q c p)
+step-kept S T k id a c q =
+    step-cases (λ o. IterationInvariant (o .tables) id (cond (begins id c && accepted (o .reply)) (target T id) a)) S T c
+    (λ e h. rw (and-false (begins id c)) q) (λ p. result-kept S T k id a q c p)
 
 -- from any tables that have it, so that a run may start elsewhere than at the empty kernel
-pub from-kept : (S : Sizes) (T : Tables) (id : ℕ) (a : Option (List Binding)) (cs : List Command) → sound S T ≡ true → Kept T id a → Kept (runFrom S T cs) id (lastFrom S T id cs a)
+pub from-kept : (S : Sizes) (T : Tables) (id : ℕ) (a : Option (List Binding)) (cs : List Command) → sound S T ≡ true → IterationInvariant T id a → IterationInvariant (runFrom S T cs) id (lastFrom S T id cs a)
 unfolding runFrom lastFrom
 from-kept S T id a [] h q = q
 from-kept S T id a (c ∷ cs) h q = from-kept S ((step S T c) .tables) id (noted S T id c a) cs (step-sound S T c h) (step-kept S T (facts S T h) id a c q)
 
-pub empty-kept : (id : ℕ) → Kept empty id none
+pub empty-kept : (id : ℕ) → IterationInvariant empty id none
 unfolding nodeAt
 empty-kept id = record { as-begun = λ r. clash false r refl; ports = λ r. clash false r refl }

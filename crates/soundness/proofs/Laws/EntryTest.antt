@@ -1,11 +1,7 @@
 -- The entry test: what each scan answers decides soundness, or leaves it to the scans after it.
-use mathlib.Core.{Bool.Bool, Bool._&&_, Bool.false, Bool.true, List.List, List.map, Path._∙_, Path._≡_, Path.ap, Path.refl, Path.sym}
-use Prim.Native.{Nat._≤_, Nat.ℕ}
-use native.Mathlib.{Omega.arith}
-use lib.{Dec.leb, ListN.drop, ListN.length, ListN.take, Seq.length-take-le}
-use borrow.{Author.Tests.leb-true}
+use Rattle.model.proofs.Logic.{Bool, List, _&&_, _∙_, _≡_, _≤_, ap, arith, drop, false, leb, leb-true, length, length-take-le, map, refl, sym, take, true, ℕ}
 use Rattle.model.specs.{Layouts.Layout, Layouts.Sized, Layouts.soundKernel, Layouts.tablesOf, Lists.all, Lists.allAt, Records.blankNode, Records.isBlankDeclaration, Records.isBlankLink, Records.isBlankNode, Records.isInstalled, Records.isServing, Sizes.Sizes, Soundness.coverage, Soundness.hasOwner, Soundness.isCovered, Soundness.linkOk, Soundness.nodeOk, Soundness.ordered, Soundness.sameOwner, Tables.Tables, Tables.installed, Tables.nodeAt, Tables.present, Tables.serving, declared.records.Declaration.Declaration, declared.records.Node.Node}
-use Rattle.model.proofs.{Laws.Booleans.and-i, Laws.Booleans.and-l, Laws.Booleans.and-r, Laws.Entry.sound-rest, Laws.Entry.unsound-by}
+use Rattle.model.proofs.{Laws.Booleans.and-i, Laws.Booleans.and-l, Laws.Booleans.and-r, Laws.Pieces.sound-rest, Laws.Pieces.unsound-by}
 use Rattle.loops.proofs.{Laws.Flags.flag-nodes}
 use Rattle.loops.specs.{Columns.flag}
 

@@ -1,8 +1,5 @@
 -- A loop that keeps the entries of an array that pass a test, in an array of the same size: its state, the start, an entry kept, an entry left out, the end.
-use mathlib.Core.{Bool.Bool, Bool.false, Bool.true, List.List, List._++_, Path._≡_, Path.ap, Path.sym}
-use Prim.Native.{Nat._+_, Nat._<_, Nat._≤_, Nat.ℕ}
-use native.Mathlib.{Omega.arith}
-use lib.{ListN.getD, ListN.length, ListN.replicate, ListN.set, ListN.take, Seq.slice}
+use Rattle.model.proofs.Logic.{Bool, List, _++_, _+_, _<_, _≡_, _≤_, ap, arith, false, getD, length, replicate, set, slice, sym, take, true, ℕ}
 use Rattle.model.specs.{Lists.keep}
 use Rattle.loops.proofs.{Laws.Collecting.Collecting, Laws.Collecting.append-skip, Laws.Collecting.append-take, Laws.Collecting.collect-end, Laws.Collecting.collect-skip, Laws.Collecting.collect-start, Laws.Collecting.collect-take, Laws.Collecting.kept-none, Laws.Collecting.kept-skip, Laws.Collecting.kept-take, Laws.Scan.take-most}
 use Rattle.loops.specs.{Counted.counted, Limits.AtMost}
