@@ -49,7 +49,7 @@ fn of_outcome(outcome: Outcome) -> Reply {
     let answer = outcome.answer;
     Reply {
         kernel: kernel,
-        refusal: model::answer_number(answer),
+        refusal: records::answer_number(answer),
         detail: 0,
     }
 }
@@ -59,7 +59,7 @@ fn of_compaction(outcome: CompactionOutcome) -> Reply {
     let answer = outcome.answer;
     Reply {
         kernel: kernel,
-        refusal: model::answer_number(answer),
+        refusal: records::answer_number(answer),
         detail: outcome.removed as u64,
     }
 }
@@ -83,7 +83,7 @@ fn of_insertion(outcome: InsertOutcome) -> Reply {
     let answer = outcome.answer;
     Reply {
         kernel: kernel,
-        refusal: model::insert_answer_number(answer),
+        refusal: records::insert_answer_number(answer),
         detail: issued(answer),
     }
 }

@@ -11,25 +11,25 @@ use sizes::LINKS;
 
 fn same_phase(a: Phase, b: Phase) -> bool {
     match a {
-        Phase::Inactive => model::is_inactive(b),
-        Phase::Loading => model::is_loading(b),
-        Phase::Active => model::is_active(b),
-        Phase::Unloading => model::is_unloading(b),
+        Phase::Inactive => records::is_inactive(b),
+        Phase::Loading => records::is_loading(b),
+        Phase::Active => records::is_active(b),
+        Phase::Unloading => records::is_unloading(b),
     }
 }
 
 fn same_parent(a: Parent, b: Parent) -> bool {
     match a {
-        Parent::None => model::no_parent(b),
-        Parent::Of(id) => model::has_parent(id, b),
+        Parent::None => records::no_parent(b),
+        Parent::Of(id) => records::has_parent(id, b),
     }
 }
 
 fn same_node(a: Node, b: Node) -> bool {
     let a_phase = a.phase;
     let b_phase = b.phase;
-    let a_parent = model::parent_in(a);
-    let b_parent = model::parent_in(b);
+    let a_parent = records::parent_in(a);
+    let b_parent = records::parent_in(b);
     let phase = same_phase(a_phase, b_phase);
     let parent = same_parent(a_parent, b_parent);
     let flags = (a.present == b.present) & (a.retired == b.retired) & (a.restoring == b.restoring);
@@ -37,17 +37,17 @@ fn same_node(a: Node, b: Node) -> bool {
 }
 
 fn same_declaration(a: Declaration, b: Declaration) -> bool {
-    let a_port = model::declared_port(a);
-    let b_port = model::declared_port(b);
-    let port = model::same_port(a_port, b_port);
-    (model::owner_in(a) == model::owner_in(b)) & port & (a.provides == b.provides)
+    let a_port = records::declared_port(a);
+    let b_port = records::declared_port(b);
+    let port = records::same_port(a_port, b_port);
+    (records::owner_in(a) == records::owner_in(b)) & port & (a.provides == b.provides)
 }
 
 fn same_link(a: Link, b: Link) -> bool {
-    let x = model::binding_in(a);
-    let y = model::binding_in(b);
-    let port = model::same_port(model::port_of(x), model::port_of(y));
-    (model::consumer_in(a) == model::consumer_in(b))
+    let x = records::binding_in(a);
+    let y = records::binding_in(b);
+    let port = records::same_port(records::port_of(x), records::port_of(y));
+    (records::consumer_in(a) == records::consumer_in(b))
         & port
         & (x.provider == y.provider)
         & (a.live == b.live)

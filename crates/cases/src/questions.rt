@@ -45,7 +45,7 @@ fn checked(state: State, line: Line) -> Answer {
 fn tables(kernel: Kernel, out: &mut [u8], at: usize) -> usize {
     let at = text::either(out, at, kernel.sound(), b" sound", b" not sound");
     let at = text::end(out, at);
-    text::records::tables(out, at, kernel)
+    text::stored::tables(out, at, kernel)
 }
 
 fn found(kernel: Kernel, line: Line, out: &mut [u8], at: usize) -> usize {
@@ -78,7 +78,7 @@ fn observed(kernel: Kernel, line: Line, out: &mut [u8], at: usize) -> usize {
 // The answer to a question.
 pub fn answer(state: State, line: Line, out: &mut [u8]) -> usize {
     if (line.name == 32) | (line.name == 33) {
-        return text::answers::answer(out, 0, model::answer_number(checked(state, line)));
+        return text::answers::answer(out, 0, records::answer_number(checked(state, line)));
     }
     let kernel = state.kernel;
     observed(kernel, line, out, 0)

@@ -33,7 +33,7 @@ pub fn live_links(links: [Link; LINKS], count: usize) -> KeptLinks
     ensures { λ r. ⌜ r ≡ keptLinks (keep isLive (take count links)) ⌝ }
 {
     let end = loops::at_most(count, LINKS);
-    let blank = model::blank_link();
+    let blank = records::blank_link();
     let mut kept = [blank; LINKS];
     let mut n = 0;
     let mut i = 0;
@@ -64,11 +64,11 @@ fn keeps(rule: Rule, present: &[bool; IDENTITIES], d: Declaration) -> bool
 {
     match rule {
         Rule::Owned => {
-            let o = model::owner_in(d);
+            let o = records::owner_in(d);
             scans::flag_at(present, o)
         }
-        Rule::Released(id, port) => !model::is_declaration(id, port, true, d),
-        Rule::Configured(id) => !model::is_dependency_of(id, d),
+        Rule::Released(id, port) => !records::is_declaration(id, port, true, d),
+        Rule::Configured(id) => !records::is_dependency_of(id, d),
     }
 }
 
@@ -82,7 +82,7 @@ pub fn kept_declarations(
     ensures { λ r. ⌜ r ≡ keptDeclarations (keep (keeping present rule) (take count declarations)) ⌝ }
 {
     let end = loops::at_most(count, DECLARATIONS);
-    let blank = model::blank_declaration();
+    let blank = records::blank_declaration();
     let mut kept = [blank; DECLARATIONS];
     let mut n = 0;
     let mut i = 0;
@@ -116,7 +116,7 @@ pub fn append_ports(
     let mut i = 0;
     while i < more {
         let p = ports[i];
-        declarations[count + i] = model::declaration_of(owner, provides, p);
+        declarations[count + i] = records::declaration_of(owner, provides, p);
         i += 1;
     }
     declarations
@@ -130,7 +130,7 @@ pub fn dead_links(mut links: [Link; LINKS], count: usize, id: usize) -> [Link; L
     let mut i = 0;
     while i < end {
         let l = links[i];
-        links[i] = model::dead_for(id, l);
+        links[i] = records::dead_for(id, l);
         i += 1;
     }
     links

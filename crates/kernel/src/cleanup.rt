@@ -10,8 +10,8 @@ use crate::Kernel;
 use crate::Outcome;
 use crate::component::change;
 use model::Answer;
-use model::checks::Row;
-use model::transitions::Transition;
+use model::Row;
+use model::Transition;
 
 impl Kernel {
     // begin_cleanup: an Unloading component that no live link has as provider starts restoring.
@@ -76,7 +76,7 @@ impl Kernel {
         }
         let nodes = self.nodes;
         let node = nodes[id];
-        let new = model::transitions::changed(transition, node);
+        let new = records::transitions::changed(transition, node);
         let issued = self.node_count;
         let links = self.links;
         let linked = self.link_count;

@@ -11,8 +11,8 @@ use crate::Kernel;
 use model::Answer;
 use model::Error;
 use model::Node;
-use model::checks::Row;
-use model::transitions::Transition;
+use model::Row;
+use model::Transition;
 use sizes::IDENTITIES;
 
 // Whether the kernel is sound, and the identity's node: blank past the table, and where the kernel is not sound.
@@ -25,7 +25,7 @@ impl Kernel {
     pub(crate) fn entry(self, id: usize) -> Entry
         ensures { λ r. ⌜ r ≡ entryOf self id ⌝ }
     {
-        let blank = model::blank_node();
+        let blank = records::blank_node();
         if !self.sound() {
             return Entry {
                 sound: false,
@@ -55,7 +55,7 @@ impl Kernel {
             return Answer::Refused(Error::Damaged);
         }
         let node = entry.node;
-        model::checks::check(row, node)
+        records::checks::check(row, node)
     }
 }
 
@@ -69,6 +69,6 @@ pub(crate) fn change(
     ensures { λ r. ⌜ r ≡ set nodes id (changedNode transition (getD nodes id blankNode)) ⌝ }
 {
     let node = nodes[id];
-    nodes[id] = model::transitions::changed(transition, node);
+    nodes[id] = records::transitions::changed(transition, node);
     nodes
 }

@@ -86,7 +86,7 @@ impl Kernel {
         self.declarations = all;
         self.declaration_count = count + wanted + offered;
         let mut nodes = self.nodes;
-        nodes[id] = model::new_node(parent);
+        nodes[id] = records::new_node(parent);
         self.nodes = nodes;
         self.node_count = id + 1;
         InsertOutcome {

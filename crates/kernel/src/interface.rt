@@ -11,7 +11,7 @@ use model::Answer;
 use model::Error;
 use model::Port;
 use model::PortList;
-use model::checks::Row;
+use model::Row;
 use sizes::DECLARATIONS;
 use sizes::IDENTITIES;
 
@@ -33,7 +33,7 @@ impl Kernel {
                 } else if DECLARATIONS <= count {
                     answer = Answer::Refused(Error::Capacity);
                 } else {
-                    declarations[count] = model::provision(id, port);
+                    declarations[count] = records::provision(id, port);
                     self.declarations = declarations;
                     self.declaration_count = count + 1;
                 }
@@ -118,7 +118,7 @@ impl Kernel {
             return Answer::Refused(Error::Capacity);
         }
         let node = entry.node;
-        let checked = model::checks::check(Row::Configure, node);
+        let checked = records::checks::check(Row::Configure, node);
         if let Answer::Refused(error) = checked {
             return Answer::Refused(error);
         }

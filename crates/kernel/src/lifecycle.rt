@@ -11,8 +11,8 @@ use crate::Outcome;
 use crate::component::change;
 use model::Answer;
 use model::Error;
-use model::checks::Row;
-use model::transitions::Transition;
+use model::Row;
+use model::Transition;
 use sizes::IDENTITIES;
 use sizes::LINKS;
 
@@ -35,7 +35,7 @@ impl Kernel {
         }
         let mut nodes = self.nodes;
         let node = nodes[id];
-        let checked = model::checks::check_begin(node);
+        let checked = records::checks::check_begin(node);
         if let Answer::Refused(error) = checked {
             return Outcome {
                 kernel: self,
@@ -59,13 +59,13 @@ impl Kernel {
                 answer: Answer::Refused(Error::Capacity),
             };
         }
-        nodes[id] = model::started_node(node.generation + 1, node);
+        nodes[id] = records::started_node(node.generation + 1, node);
         self.nodes = nodes;
         let mut links = self.links;
         let mut i = 0;
         while i < more {
             let b = target.bindings[i];
-            links[linked + i] = model::live_link(id, b);
+            links[linked + i] = records::live_link(id, b);
             i += 1;
         }
         self.links = links;
@@ -88,7 +88,7 @@ impl Kernel {
         }
         let nodes = self.nodes;
         let node = nodes[id];
-        let checked = model::checks::check_loading(node);
+        let checked = records::checks::check_loading(node);
         if let Answer::Refused(error) = checked {
             return Answer::Refused(error);
         }
@@ -161,7 +161,7 @@ impl Kernel {
         }
         let nodes = self.nodes;
         let node = nodes[id];
-        let checked = model::checks::check_running(node);
+        let checked = records::checks::check_running(node);
         if let Answer::Refused(error) = checked {
             return Answer::Refused(error);
         }

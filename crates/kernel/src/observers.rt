@@ -5,6 +5,7 @@ ghost use mathlib.Core.List.{[]};
 ghost use mathlib.Core.Option.{none};
 ghost use Rattle.kernel.specs.Fields.{ask};
 ghost use Rattle.model.specs.Answers.{optionPhase, optionGeneration};
+ghost use Rattle.model.specs.Soundness.{declares};
 ghost use Rattle.model.specs.Observers.{contains, phase, retired, cleanupStarted, episodeGeneration, bindingRecords, identitySlots, declarationRecords, dependencyDeclared, provisionReserved, ids, children};
 ghost use Rattle.scans.specs.Results.{identities};
 use crate::Kernel;
@@ -101,24 +102,26 @@ impl Kernel {
     pub fn dependency_declared(self, owner: usize, port: Port) -> bool
         ensures { λ r. ⌜ r ≡ ask self false (λ T. dependencyDeclared T owner port) ⌝ }
     {
-        if !self.sound() {
-            return false;
-        }
-        let declarations = self.declarations;
-        let count = self.declaration_count;
-        scans::declares_in(declarations, count, owner, port, false)
+        self.declares(owner, port, false)
     }
 
     // Whether this owner, present or not, has declared the port as a provision.
     pub fn provision_reserved(self, owner: usize, port: Port) -> bool
         ensures { λ r. ⌜ r ≡ ask self false (λ T. provisionReserved T owner port) ⌝ }
     {
+        self.declares(owner, port, true)
+    }
+
+    // Whether it has declared it as this, a provision or a dependency.
+    fn declares(self, owner: usize, port: Port, provides: bool) -> bool
+        ensures { λ r. ⌜ r ≡ ask self false (λ T. declares (T .declarations) owner port provides) ⌝ }
+    {
         if !self.sound() {
             return false;
         }
         let declarations = self.declarations;
         let count = self.declaration_count;
-        scans::declares_in(declarations, count, owner, port, true)
+        scans::declares_in(declarations, count, owner, port, provides)
     }
 
     // The present identities, ascending.

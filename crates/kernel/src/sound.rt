@@ -13,9 +13,9 @@ impl Kernel {
     pub fn new() -> Self
         ensures { λ r. ⌜ r ≡ kernelOf (emptyKernel sizes) ⌝ }
     {
-        let node = model::blank_node();
-        let declaration = model::blank_declaration();
-        let link = model::blank_link();
+        let node = records::blank_node();
+        let declaration = records::blank_declaration();
+        let link = records::blank_link();
         let nodes = [node; IDENTITIES];
         let declarations = [declaration; DECLARATIONS];
         let links = [link; LINKS];

@@ -28,7 +28,7 @@ fn write(bytes: &[u8]) {
 
 fn answered(answer: Answer) {
     let mut out = io::buffer();
-    let at = text::field(&mut out, 0, model::answer_number(answer) as u64);
+    let at = text::field(&mut out, 0, records::answer_number(answer) as u64);
     text::flush(&out, at);
 }
 
@@ -40,7 +40,7 @@ fn number(n: usize) {
 
 // The ports 0/REALM to 39/REALM.
 fn ports_of(realm: u64) -> [Port; 40] {
-    let blank = model::blank_port();
+    let blank = records::blank_port();
     let mut ports = [blank; 40];
     let mut i = 0;
     while i < 40 {

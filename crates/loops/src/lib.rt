@@ -38,7 +38,7 @@ pub fn distinct_ports(list: PortList) -> bool
         let mut j = i + 1;
         while j < end {
             let q = ports[j];
-            if model::same_port(p, q) {
+            if records::same_port(p, q) {
                 ok = false;
                 break 'scan;
             }

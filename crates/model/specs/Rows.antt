@@ -2,8 +2,8 @@
 use mathlib.Core.List.{[], _∷_}
 use Rattle.model.specs.declared.records.Node.{Node}
 use Rattle.model.specs.declared.Phase.{Phase}
-use Rattle.model.specs.declared.checks.Row.{Row}
-use Rattle.model.specs.declared.transitions.Transition.{Transition}
+use Rattle.model.specs.declared.rows.Row.{Row}
+use Rattle.model.specs.declared.rows.Transition.{Transition}
 use Rattle.model.specs.Interface.{absent, configureNodeTests, declareNodeTests}
 use Rattle.model.specs.Lifecycle.{beginNodeTests, loadingTests, restoringTests, retiredTests, runningTests, unloadingTests}
 use Rattle.model.specs.Records.{absentNode, restoredNode, restoringNode, retiredNode, withPhase}

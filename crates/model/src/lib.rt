@@ -1,70 +1,13 @@
-// What callers see of the lifecycle kernel: phases, ports, bindings, refusals and answers; the stored records and the functions on them.
-pub mod answers;
-pub mod checks;
-pub mod phases;
-pub mod ports;
+// What callers see of the lifecycle kernel: phases, ports, bindings, refusals and answers; and the stored records. There is no function here.
 pub mod records;
-pub mod tests;
-pub mod transitions;
+pub mod rows;
 
-pub use answers::answer_number;
-pub use answers::error_number;
-pub use answers::insert_answer_number;
-pub use phases::is_active;
-pub use phases::is_inactive;
-pub use phases::is_loading;
-pub use phases::is_running;
-pub use phases::is_unloading;
-pub use ports::binding_of;
-pub use ports::blank_binding;
-pub use ports::blank_port;
-pub use ports::port_of;
-pub use ports::same_port;
 pub use records::Declaration;
 pub use records::Link;
 pub use records::Node;
 pub use records::StoredParent;
-pub use records::binding_in;
-pub use records::blank_declaration;
-pub use records::blank_link;
-pub use records::blank_node;
-pub use records::consumer_in;
-pub use records::dead_for;
-pub use records::declaration_of;
-pub use records::declared_port;
-pub use records::either_declaration;
-pub use records::either_link;
-pub use records::is_blank_declaration;
-pub use records::is_blank_link;
-pub use records::is_blank_node;
-pub use records::live_link;
-pub use records::new_node;
-pub use records::owner_in;
-pub use records::parent_in;
-pub use records::port_in;
-pub use records::provider_in;
-pub use records::provision;
-pub use records::stored_parent;
-pub use records::with_phase;
-pub use tests::has_parent;
-pub use tests::is_child_of;
-pub use tests::is_consistent;
-pub use tests::is_declaration;
-pub use tests::is_dependency_of;
-pub use tests::is_installed;
-pub use tests::is_live_link_of;
-pub use tests::is_pending;
-pub use tests::is_providing;
-pub use tests::is_serving;
-pub use tests::no_parent;
-pub use tests::relies_on;
-pub use transitions::Transition;
-pub use transitions::absent_node;
-pub use transitions::changed;
-pub use transitions::restored_node;
-pub use transitions::restoring_node;
-pub use transitions::retired_node;
-pub use transitions::started_node;
+pub use rows::Row;
+pub use rows::Transition;
 
 pub enum Phase {
     Inactive,

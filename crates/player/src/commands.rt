@@ -17,7 +17,7 @@ pub struct Player {
 }
 
 fn empty_list() -> PortList {
-    let port = model::blank_port();
+    let port = records::blank_port();
     let ports = [port; 32];
     PortList {
         ports: ports,
@@ -104,7 +104,7 @@ pub fn play(player: Player, log: &[u8], answers: &mut [u8]) -> Player {
                 let parent = log::parent(operands);
                 let outcome = kernel.insert(parent, dependencies, provisions);
                 let inserted = outcome.answer;
-                answer = model::insert_answer_number(inserted);
+                answer = records::insert_answer_number(inserted);
                 detail = issued(inserted);
                 if answer == 0 {
                     kernel = outcome.kernel;
@@ -116,20 +116,20 @@ pub fn play(player: Player, log: &[u8], answers: &mut [u8]) -> Player {
                 let outcome = kernel.compact_bindings();
                 kernel = outcome.kernel;
                 let compacted = outcome.answer;
-                answer = model::answer_number(compacted);
+                answer = records::answer_number(compacted);
                 detail = outcome.removed as u64;
             }
             0x0D => {
                 let outcome = kernel.compact_declarations();
                 kernel = outcome.kernel;
                 let compacted = outcome.answer;
-                answer = model::answer_number(compacted);
+                answer = records::answer_number(compacted);
                 detail = outcome.removed as u64;
             }
             0x04 => {
                 let outcome = kernel.begin(id);
                 let done = outcome.answer;
-                answer = model::answer_number(done);
+                answer = records::answer_number(done);
                 if answer == 0 {
                     kernel = outcome.kernel;
                 }
@@ -138,61 +138,61 @@ pub fn play(player: Player, log: &[u8], answers: &mut [u8]) -> Player {
                 let outcome = kernel.finish(id);
                 kernel = outcome.kernel;
                 let done = outcome.answer;
-                answer = model::answer_number(done);
+                answer = records::answer_number(done);
             }
             0x06 => {
                 let outcome = kernel.leave(id);
                 kernel = outcome.kernel;
                 let done = outcome.answer;
-                answer = model::answer_number(done);
+                answer = records::answer_number(done);
             }
             0x07 => {
                 let outcome = kernel.leave_if_changed(id);
                 kernel = outcome.kernel;
                 let done = outcome.answer;
-                answer = model::answer_number(done);
+                answer = records::answer_number(done);
             }
             0x08 => {
                 let outcome = kernel.retire(id);
                 kernel = outcome.kernel;
                 let done = outcome.answer;
-                answer = model::answer_number(done);
+                answer = records::answer_number(done);
             }
             0x09 => {
                 let outcome = kernel.begin_cleanup(id);
                 kernel = outcome.kernel;
                 let done = outcome.answer;
-                answer = model::answer_number(done);
+                answer = records::answer_number(done);
             }
             0x0A => {
                 let outcome = kernel.finish_cleanup(id);
                 kernel = outcome.kernel;
                 let done = outcome.answer;
-                answer = model::answer_number(done);
+                answer = records::answer_number(done);
             }
             0x0B => {
                 let outcome = kernel.remove(id);
                 kernel = outcome.kernel;
                 let done = outcome.answer;
-                answer = model::answer_number(done);
+                answer = records::answer_number(done);
             }
             0x0E => {
                 let outcome = kernel.declare_provision(id, log::port_at(operands, 1));
                 kernel = outcome.kernel;
                 let done = outcome.answer;
-                answer = model::answer_number(done);
+                answer = records::answer_number(done);
             }
             0x0F => {
                 let outcome = kernel.release_provision(id, log::port_at(operands, 1));
                 kernel = outcome.kernel;
                 let done = outcome.answer;
-                answer = model::answer_number(done);
+                answer = records::answer_number(done);
             }
             _ => {
                 let outcome = kernel.configure_pending_dependencies(id, dependencies);
                 kernel = outcome.kernel;
                 let done = outcome.answer;
-                answer = model::answer_number(done);
+                answer = records::answer_number(done);
                 dependencies.count = 0;
                 provisions.count = 0;
             }

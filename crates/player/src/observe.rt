@@ -120,8 +120,8 @@ fn checks(out: &mut [u8], at: usize, player: Player, question: &[u8]) -> usize {
     let provisions = player.provisions;
     let iteration = kernel.check_iteration(log::identity(question));
     let insertion = kernel.check_insert(log::parent(question), dependencies, provisions);
-    let at = put::byte(out, at, model::answer_number(iteration));
-    put::byte(out, at, model::answer_number(insertion))
+    let at = put::byte(out, at, records::answer_number(iteration));
+    put::byte(out, at, records::answer_number(insertion))
 }
 
 fn answers(out: &mut [u8], at: usize, player: Player, question: &[u8]) -> usize {

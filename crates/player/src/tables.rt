@@ -29,7 +29,7 @@ fn parent(out: &mut [u8], at: usize, parent: Parent) -> usize {
 
 fn node(out: &mut [u8], at: usize, node: Node) -> usize {
     let phase = node.phase;
-    let above = model::parent_in(node);
+    let above = records::parent_in(node);
     let at = put::flag(out, at, node.present);
     let at = put::flag(out, at, node.retired);
     let at = put::byte(out, at, phase_number(phase));
@@ -39,16 +39,16 @@ fn node(out: &mut [u8], at: usize, node: Node) -> usize {
 }
 
 fn declaration(out: &mut [u8], at: usize, declaration: Declaration) -> usize {
-    let port = model::declared_port(declaration);
-    let at = put::word(out, at, model::owner_in(declaration) as u64);
+    let port = records::declared_port(declaration);
+    let at = put::word(out, at, records::owner_in(declaration) as u64);
     let at = put::word(out, at, port.key);
     let at = put::word(out, at, port.realm);
     put::flag(out, at, declaration.provides)
 }
 
 fn link(out: &mut [u8], at: usize, link: Link) -> usize {
-    let binding = model::binding_in(link);
-    let at = put::word(out, at, model::consumer_in(link) as u64);
+    let binding = records::binding_in(link);
+    let at = put::word(out, at, records::consumer_in(link) as u64);
     let at = put::word(out, at, binding.key);
     let at = put::word(out, at, binding.realm);
     let at = put::word(out, at, binding.provider as u64);

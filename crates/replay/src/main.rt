@@ -46,7 +46,7 @@ fn replay(fd: i32, name: &[u8]) {
     let kernel = played.kernel;
     let mut out = io::large_buffer();
     let at = answers(&mut out, &given, played.answered);
-    let at = text::records::tables(&mut out, at, kernel);
+    let at = text::stored::tables(&mut out, at, kernel);
     text::flush(&out, at);
 }
 

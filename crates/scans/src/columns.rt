@@ -28,18 +28,18 @@ pub fn declaration_columns(
     let mut i = 0;
     while i < end {
         let d = declarations[i];
-        let p = model::declared_port(d);
-        owner[i] = model::owner_in(d);
+        let p = records::declared_port(d);
+        owner[i] = records::owner_in(d);
         key[i] = p.key;
         realm[i] = p.realm;
         provides[i] = d.provides;
         i += 1;
     }
-    let mut rest = model::blank_declaration();
+    let mut rest = records::blank_declaration();
     while i < DECLARATIONS {
         let d = declarations[i];
-        rest = model::either_declaration(rest, d);
+        rest = records::either_declaration(rest, d);
         i += 1;
     }
-    model::is_blank_declaration(rest)
+    records::is_blank_declaration(rest)
 }

@@ -31,7 +31,7 @@ pub fn declares_in(
     let mut i = 0;
     while i < end {
         let d = declarations[i];
-        if model::is_declaration(owner, port, provision, d) {
+        if records::is_declaration(owner, port, provision, d) {
             return true;
         }
         i += 1;
@@ -43,9 +43,9 @@ pub fn declares_in(
 fn taken_by(present: &[bool; IDENTITIES], port: Port, d: Declaration) -> bool
     ensures { λ r. ⌜ r ≡ takenBy (flag IDENTITIES (now (present .entry))) port d ⌝ }
 {
-    let declared = model::declared_port(d);
-    let owner = model::owner_in(d);
-    let same = model::same_port(declared, port);
+    let declared = records::declared_port(d);
+    let owner = records::owner_in(d);
+    let same = records::same_port(declared, port);
     let here = flag_at(present, owner);
     d.provides & same & here
 }
@@ -79,7 +79,7 @@ pub fn relies_on(links: [Link; LINKS], count: usize, id: usize, port: Port) -> b
     let mut i = 0;
     while i < end {
         let l = links[i];
-        if model::relies_on(id, port, l) {
+        if records::relies_on(id, port, l) {
             return true;
         }
         i += 1;
@@ -107,7 +107,7 @@ pub fn check_provisions(
         let mut j = i + 1;
         while j < end {
             let q = ports[j];
-            if model::same_port(p, q) {
+            if records::same_port(p, q) {
                 ok = false;
                 break 'scan;
             }

@@ -24,7 +24,7 @@ pub fn node_flags(nodes: [Node; IDENTITIES]) -> NodeFlags
     while i < IDENTITIES {
         let node = nodes[i];
         present[i] = node.present;
-        providing[i] = model::is_providing(node);
+        providing[i] = records::is_providing(node);
         i += 1;
     }
     NodeFlags {
@@ -41,7 +41,7 @@ pub fn child_flags(nodes: [Node; IDENTITIES], parent: usize) -> [bool; IDENTITIE
     let mut i = 0;
     while i < IDENTITIES {
         let node = nodes[i];
-        flags[i] = model::is_child_of(parent, node);
+        flags[i] = records::is_child_of(parent, node);
         i += 1;
     }
     flags
@@ -72,7 +72,7 @@ pub fn has_child(nodes: [Node; IDENTITIES], count: usize, id: usize) -> bool
     let mut i = 0;
     while i < end {
         let node = nodes[i];
-        if model::is_child_of(id, node) {
+        if records::is_child_of(id, node) {
             return true;
         }
         i += 1;

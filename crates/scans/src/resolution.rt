@@ -70,7 +70,7 @@ pub fn target_in(
         ⌝ }
 {
     let end = at_most(count, DECLARATIONS);
-    let blank = model::blank_binding();
+    let blank = records::blank_binding();
     let mut bindings = [blank; DECLARATIONS];
     let mut n = 0;
     let mut i = 0;
@@ -95,7 +95,7 @@ pub fn target_in(
                     there: false,
                 };
             };
-            bindings[n] = model::binding_of(port, p);
+            bindings[n] = records::binding_of(port, p);
             n += 1;
         }
         i += 1;
@@ -112,14 +112,14 @@ pub fn committed_in(links: [Link; LINKS], count: usize, id: usize) -> CommittedB
     ensures { λ r. ⌜ r ≡ committedBindings (committed (take count links) id) ⌝ }
 {
     let end = at_most(count, LINKS);
-    let blank = model::blank_binding();
+    let blank = records::blank_binding();
     let mut bindings = [blank; LINKS];
     let mut n = 0;
     let mut i = 0;
     while i < end {
         let l = links[i];
-        if model::is_live_link_of(id, l) {
-            let b = model::binding_in(l);
+        if records::is_live_link_of(id, l) {
+            let b = records::binding_in(l);
             bindings[n] = b;
             n += 1;
         }
@@ -135,7 +135,7 @@ pub fn committed_in(links: [Link; LINKS], count: usize, id: usize) -> CommittedB
 pub fn no_target() -> TargetBindings
     ensures { λ r. ⌜ r ≡ targetBindings none ⌝ }
 {
-    let blank = model::blank_binding();
+    let blank = records::blank_binding();
     TargetBindings {
         bindings: [blank; DECLARATIONS],
         count: 0,

@@ -26,10 +26,10 @@ pub fn check_update(nodes: [Node; IDENTITIES], issued: usize, id: usize, node: N
     if !old.present {
         return Answer::Refused(Error::Unknown);
     }
-    if !model::is_consistent(node) {
+    if !records::is_consistent(node) {
         return Answer::Refused(Error::InvalidState);
     }
-    let parent = model::parent_in(node);
+    let parent = records::parent_in(node);
     let fine = parent_ok(nodes, issued, id, parent);
     if node.present & !fine {
         return Answer::Refused(Error::Unknown);
@@ -60,7 +60,7 @@ pub fn update_node(
     let mut i = 0;
     while i < end {
         let l = links[i];
-        if model::checks::blocks(id, node, l) {
+        if records::checks::blocks(id, node, l) {
             return Answer::Refused(Error::Relied);
         }
         i += 1;

@@ -29,7 +29,7 @@ fn kept(count: usize) -> usize
 fn blank_list(count: usize) -> PortList
     ensures { λ r. ⌜ r ≡ copyOf count [] ⌝ }
 {
-    let blank = model::blank_port();
+    let blank = records::blank_port();
     let ports = [blank; 32];
     PortList { ports, count }
 }

@@ -32,11 +32,11 @@ pub fn nodes_ok(
     let mut i = 0;
     while i < end {
         let node = nodes[i];
-        if !model::is_consistent(node) {
+        if !records::is_consistent(node) {
             return false;
         }
         if node.present {
-            let parent = model::parent_in(node);
+            let parent = records::parent_in(node);
             if let Parent::Of(p) = parent {
                 if i <= p {
                     return false;
@@ -48,13 +48,13 @@ pub fn nodes_ok(
             }
         }
         present[i] = node.present;
-        installed[i] = model::is_installed(node);
-        serving[i] = model::is_serving(node);
+        installed[i] = records::is_installed(node);
+        serving[i] = records::is_serving(node);
         i += 1;
     }
     while i < IDENTITIES {
         let node = nodes[i];
-        if !model::is_blank_node(node) {
+        if !records::is_blank_node(node) {
             return false;
         }
         i += 1;

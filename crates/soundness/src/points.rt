@@ -57,8 +57,8 @@ pub fn one_provider(
         (take count (declarationsOf DECLARATIONS (now (owner .entry)) (now (key .entry)) (now (realm .entry)) (now (provides .entry))))
         ⌝ }
 {
-    let port = model::declared_port(d);
-    let o = model::owner_in(d);
+    let port = records::declared_port(d);
+    let o = records::owner_in(d);
     let here = flag_at(present, o);
     if !(d.provides & here) {
         return true;
@@ -104,7 +104,7 @@ pub fn one_owner(
             key: key[i],
             realm: realm[i],
         };
-        let d = model::declaration_of(owner[i], provides[i], port);
+        let d = records::declaration_of(owner[i], provides[i], port);
         if !one_provider(owner, key, realm, provides, present, end, &first, &next, d) {
             return false;
         }
@@ -208,12 +208,12 @@ pub fn link_ok(
     if !link.live {
         return true;
     }
-    let c = model::consumer_in(link);
-    let p = model::provider_in(link);
+    let c = records::consumer_in(link);
+    let p = records::provider_in(link);
     if !(flag_at(installed, c) & flag_at(serving, p)) {
         return false;
     }
-    let port = model::port_in(link);
+    let port = records::port_in(link);
     let wanted = meet(
         owner,
         key,
@@ -291,13 +291,13 @@ pub fn links_ok(
         }
         i += 1;
     }
-    let mut rest = model::blank_link();
+    let mut rest = records::blank_link();
     while i < LINKS {
         let l = links[i];
-        rest = model::either_link(rest, l);
+        rest = records::either_link(rest, l);
         i += 1;
     }
-    model::is_blank_link(rest)
+    records::is_blank_link(rest)
 }
 
 // Whether each dependency of an installed owner is met.

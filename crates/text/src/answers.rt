@@ -2,7 +2,7 @@
 use crate::bytes;
 use crate::field;
 use crate::number;
-use crate::records;
+use crate::stored;
 use model::Binding;
 use model::OptionGeneration;
 use model::OptionPhase;
@@ -25,7 +25,7 @@ pub fn answer(out: &mut [u8], at: usize, number: u8) -> usize {
 
 pub fn phase(out: &mut [u8], at: usize, answer: OptionPhase) -> usize {
     match answer {
-        OptionPhase::Some(now) => records::phase(out, at, now),
+        OptionPhase::Some(now) => stored::phase(out, at, now),
         OptionPhase::None => bytes(out, at, b" none"),
     }
 }

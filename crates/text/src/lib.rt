@@ -2,7 +2,7 @@
 // Each function that writes gives the place after what it put; a byte past the end is left out.
 pub mod answers;
 pub mod made;
-pub mod records;
+pub mod stored;
 pub mod words;
 
 use libc::STDOUT_FILENO;

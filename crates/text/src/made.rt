@@ -41,31 +41,31 @@ pub fn port_of(key: u64, realm: u64) -> Port {
 pub fn node_of(line: Line) -> Node {
     let phase = phase_at(line.fourth);
     let parent = parent_of(line.none, line.sixth);
-    let mut node = model::new_node(parent);
+    let mut node = records::new_node(parent);
     node.present = line.second == 1;
     node.retired = line.third == 1;
     node.restoring = line.fifth == 1;
     node.generation = line.seventh;
-    model::with_phase(phase, node)
+    records::with_phase(phase, node)
 }
 
 // PLACE OWNER KEY REALM PROVIDES
 pub fn declaration_of(line: Line) -> Declaration {
     let port = port_of(line.third, line.fourth);
-    model::declaration_of(identity_of(line.second), line.fifth == 1, port)
+    records::declaration_of(identity_of(line.second), line.fifth == 1, port)
 }
 
 // PLACE CONSUMER KEY REALM PROVIDER LIVE
 pub fn link_of(line: Line) -> Link {
-    let binding = model::binding_of(port_of(line.third, line.fourth), identity_of(line.fifth));
-    let mut link = model::live_link(identity_of(line.second), binding);
+    let binding = records::binding_of(port_of(line.third, line.fourth), identity_of(line.fifth));
+    let mut link = records::live_link(identity_of(line.second), binding);
     link.live = line.sixth == 1;
     link
 }
 
 // The empty list.
 pub fn no_ports() -> PortList {
-    let blank = model::blank_port();
+    let blank = records::blank_port();
     PortList {
         ports: [blank; 32],
         count: 0,

@@ -1,7 +1,7 @@
 -- What a method hands back, from what its kernel's layout is commanded and answers.
 use Rattle.model.proofs.Logic.{Bool, List, _++_, _<_, _∙_, _∷_, _≡_, ap, false, getD, none, not, not-false, not-true, refl, set, some, sym, true, ℕ}
 use Rattle.kernel.specs.{Fields.isSound, Fields.kernelOf, Fields.layoutOf, Outcomes.answerOf, Outcomes.command, Outcomes.compactionOutcome, Outcomes.insertOutcome, Outcomes.outcome, declared.Kernel.Kernel, declared.Outcome.Outcome}
-use Rattle.model.specs.{Answers.answer, Answers.removedCount, Commands.Command, Commands.report, Commands.result, Commands.tests, Insertion.insertTests, Interface.unknown, Layouts.Sized, Layouts.layOut, Layouts.tablesOf, Records.blankNode, Refusals.Reply, Refusals.Tests, Refusals.accepted, Refusals.first, Rows.changedNode, Tables.Tables, Tables.nodeAt, Tables.present, Tables.withNode, declared.Answer.Answer, declared.Error.Error, declared.InsertAnswer.InsertAnswer, declared.Parent.Parent, declared.PortList.PortList, declared.records.Node.Node, declared.transitions.Transition.Transition}
+use Rattle.model.specs.{Answers.answer, Answers.removedCount, Commands.Command, Commands.report, Commands.result, Commands.tests, Insertion.insertTests, Interface.unknown, Layouts.Sized, Layouts.layOut, Layouts.tablesOf, Records.blankNode, Refusals.Reply, Refusals.Tests, Refusals.accepted, Refusals.first, Rows.changedNode, Tables.Tables, Tables.nodeAt, Tables.present, Tables.withNode, declared.Answer.Answer, declared.Error.Error, declared.InsertAnswer.InsertAnswer, declared.Parent.Parent, declared.PortList.PortList, declared.records.Node.Node, declared.rows.Transition.Transition}
 use Rattle.layouts.proofs.{Laws.Nodes.node-changed, Laws.Rows.Accepted, Laws.Rows.accepted-by, Laws.Rows.done-row, Laws.Rows.done-sound, Laws.Rows.done-whole, Laws.Rows.refused-by, Laws.Rows.refused-command, Laws.Rows.refused-whole, Laws.Sound.SoundKernel, Laws.Sound.node-count-is, Laws.Sound.present-below}
 use Rattle.model.proofs.{Laws.Refusals.Passed, Laws.Refusals.of-passed, Laws.Refusals.report-accepts, Theorems.Kernels.commanded-unsound}
 use Rattle.sizes.specs.{Sizes.IDENTITIES, Sizes.sizes}
@@ -13,8 +13,8 @@ accepted-done (Reply.issued id) h = refl
 accepted-done (Reply.removed n) h = refl
 accepted-done (Reply.refused e) h = cc
 
-pub reported : (T : Tables) (c : Command) → answer (report T c) ≡ Answer.Done
-reported T c = accepted-done (report T c) (report-accepts T c)
+pub report-done : (T : Tables) (c : Command) → answer (report T c) ≡ Answer.Done
+report-done T c = accepted-done (report T c) (report-accepts T c)
 
 -- the kernel that a command leaves, laid out
 abbrev pub Leaves : Kernel → Command → Kernel → Type 0
@@ -26,7 +26,7 @@ nodesTo k ns = record { nodes = ns; «node_count» = k .«node_count»; declarat
 
 -- one that was accepted hands back what it leaves, and Done
 done-outcome : (k : Kernel) {m : Kernel} (c : Command) → Accepted sizes (layoutOf k) c → Leaves k c m → outcome (command k c) ≡ record { kernel = m; answer = Answer.Done }
-done-outcome k c e h = let a = reported (tablesOf (layoutOf k)) c in ap outcome e ∙ (λ i. record { kernel = kernelOf (h i); answer = a i })
+done-outcome k c e h = let a = report-done (tablesOf (layoutOf k)) c in ap outcome e ∙ (λ i. record { kernel = kernelOf (h i); answer = a i })
 
 -- ---- a command that refused or passed its row
 
@@ -41,14 +41,14 @@ module _ {k : Kernel} (K : SoundKernel sizes (layoutOf k)) (c : Command) where
 pub hands-damaged : (k : Kernel) (c : Command) {s : Bool} → s ≡ isSound k → not s ≡ true → record { kernel = k; answer = Answer.Refused Error.Damaged } ≡ outcome (command k c)
 hands-damaged k c e h = sym (ap outcome (commanded-unsound sizes (layoutOf k) c (sym e ∙ not-true _ h)))
 
--- one whose first tests were answered by themselves, and refused
+-- one whose first tests were answer-is by themselves, and refused
 module _ {k : Kernel} (z : Sized sizes (layoutOf k)) (c : Command) (f : Tables → Tests) (us : Tests) (q : tests sizes (tablesOf (layoutOf k)) c ≡ f (tablesOf (layoutOf k)) ++ us) where
   pub hands-refusal : {a : Answer} → a ≡ answerOf k f → {x : Error} → a ≡ Answer.Refused x → record { kernel = k; answer = Answer.Refused x } ≡ outcome (command k c)
   hands-refusal {a} e r = sym (ap outcome (refused-command z f a e us r c q))
 
 -- the answer that the code holds
-pub answered : {m : Kernel} {a b : Answer} {o : Outcome} → a ≡ b → record { kernel = m; answer = b } ≡ o → record { kernel = m; answer = a } ≡ o
-answered {m} e h = ap (λ (x : Answer). record { kernel = m; answer = x }) e ∙ h
+pub answer-is : {m : Kernel} {a b : Answer} {o : Outcome} → a ≡ b → record { kernel = m; answer = b } ≡ o → record { kernel = m; answer = a } ≡ o
+answer-is {m} e h = ap (λ (x : Answer). record { kernel = m; answer = x }) e ∙ h
 
 -- ---- a compaction, which reports how many went
 
@@ -59,7 +59,7 @@ module _ (k : Kernel) (c : Command) where
   pub compacts :
       Accepted sizes (layoutOf k) c → (m : Kernel) → Leaves k c m → {n : ℕ} → removedCount (report (tablesOf (layoutOf k)) c) ≡ n →
       record { kernel = m; answer = Answer.Done; removed = n } ≡ compactionOutcome (command k c)
-  compacts e m h r = let a = reported (tablesOf (layoutOf k)) c in sym (ap compactionOutcome e ∙ (λ i. record { kernel = kernelOf (h i); answer = a i; removed = r i }))
+  compacts e m h r = let a = report-done (tablesOf (layoutOf k)) c in sym (ap compactionOutcome e ∙ (λ i. record { kernel = kernelOf (h i); answer = a i; removed = r i }))
 
 -- ---- an insertion, which issues an identity
 
@@ -80,8 +80,8 @@ pub record Answered (k : Kernel) (c : Command) (a : Answer) : Type 0 where
 
 module _ {k : Kernel} {c : Command} {a : Answer} (A : Answered k c a) where
   -- refused: the operand
-  pub kept : {x : Error} → a ≡ Answer.Refused x → record { kernel = k; answer = a } ≡ outcome (command k c)
-  kept r = answered r (sym (ap outcome (refused-whole (A .arrays) c a (A .row) r)))
+  pub refused-as : {x : Error} → a ≡ Answer.Refused x → record { kernel = k; answer = a } ≡ outcome (command k c)
+  refused-as r = answer-is r (sym (ap outcome (refused-whole (A .arrays) c a (A .row) r)))
 
   module _ (d : a ≡ Answer.Done) where
     -- the kernel was sound, and no test of the row applies
@@ -92,7 +92,7 @@ module _ {k : Kernel} {c : Command} {a : Answer} (A : Answered k c a) where
     done-tests = done-row (A .arrays) (λ T. tests sizes T c) a (A .row) d
 
     pub done-as : (m : Kernel) → Leaves k c m → record { kernel = m; answer = a } ≡ outcome (command k c)
-    done-as m h = answered d (sym (done-outcome k c (done-whole (A .arrays) c a (A .row) d) h))
+    done-as m h = answer-is d (sym (done-outcome k c (done-whole (A .arrays) c a (A .row) d) h))
 
     -- a row that starts with the identity's presence
     module _ (id : ℕ) {ts : Tests} (u : tests sizes (tablesOf (layoutOf k)) c ≡ unknown (tablesOf (layoutOf k)) id ∷ ts) where

@@ -1,6 +1,6 @@
 -- The component that a call names, its node tested by a row.
 use Rattle.model.proofs.Logic.{Bool, List, [], _++_, _<_, _∙_, _∷_, _≡_, _≤_, ap, eqb, false, getD, not, not-false, refl, set, some, subst, sym, true, ℕ}
-use Rattle.model.specs.{Interface.unknown, Answers.checked, Kernels.asked, Layouts.Layout, Layouts.Sized, Layouts.layOut, Layouts.tablesOf, Lifecycle.beginNodeTests, Records.blankNode, Records.isInactive, Refusals.Tests, Refusals.first, Rows.nodeTests, Sizes.Sizes, Sizes.lastGeneration, Tables.nodeAt, Tables.present, Tables.withLinks, Tables.withNode, declared.Answer.Answer, declared.Error.Error, declared.checks.Row.Row, declared.records.Link.Link, declared.records.Node.Node}
+use Rattle.model.specs.{Interface.unknown, Answers.checked, Kernels.asked, Layouts.Layout, Layouts.Sized, Layouts.layOut, Layouts.tablesOf, Lifecycle.beginNodeTests, Records.blankNode, Records.isInactive, Refusals.Tests, Refusals.first, Rows.nodeTests, Sizes.Sizes, Sizes.lastGeneration, Tables.nodeAt, Tables.present, Tables.withLinks, Tables.withNode, declared.Answer.Answer, declared.Error.Error, declared.rows.Row.Row, declared.records.Link.Link, declared.records.Node.Node}
 use Rattle.layouts.proofs.{Laws.Anew.HoldsLinks, Laws.Anew.HoldsNodes, Laws.Anew.declarations-held, Laws.Anew.laid-as, Laws.Anew.links-held, Laws.Anew.linksTo, Laws.Anew.node-set, Laws.Anew.nodesTo, Laws.Rows.done-row, Laws.Rows.done-sound, Laws.Rows.row-is, Laws.Sound.SoundKernel, Laws.Sound.ask-sound, Laws.Sound.node-is, Laws.Sound.node-past, Laws.Sound.present-below}
 use Rattle.layouts.specs.{Rows.ofNode, Rows.rowAnswer}
 use Rattle.model.proofs.{Laws.Refusals.Passed, Laws.Refusals.done-passed, Laws.Refusals.passed-first, Laws.Refusals.refused-among, Laws.Refusals.stop}

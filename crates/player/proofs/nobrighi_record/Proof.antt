@@ -9,9 +9,16 @@ Inv-loop log questions every out₀ player₀ answer₀ written₀ index₀ out 
 abbrev μ-loop : tie.MeasureT-loop
 μ-loop log questions every out₀ player₀ answer₀ written₀ index₀ out player answer written index = length log - index
 
+-- a turn, back to its head
+abbrev turn : tie.Else2 Inv-loop μ-loop → tie.At-loop Inv-loop μ-loop
+turn e = let f : tie.Else1 Inv-loop μ-loop = e .before .before .before .before .before in f .before .before .before .before
+
+abbrev start : tie.At-loop Inv-loop μ-loop → tie.Start Inv-loop μ-loop
+start l = l .before .before .before .before .before
+
 add-index : tie.Need-add-index Inv-loop μ-loop
 -- the length of a slice fits
-add-index c = omega (arith, c .before .before .before .before .before .before .before .before .before .before .before .before .before .before .before .before .before .before .before .good .0 .0)
+add-index c = omega (arith, start (turn (c .before .before .before .before .before)) .good .0 .0)
 
 pub nobrighi-record-spec : {M : Type 1} → statement M
 nobrighi-record-spec = tie.close (tie.spec Inv-loop μ-loop

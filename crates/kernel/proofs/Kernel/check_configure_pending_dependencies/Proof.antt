@@ -1,7 +1,7 @@
 -- `kernel::Kernel::check_configure_pending_dependencies` meets its contract.
 use Rattle.model.proofs.Logic.{Bool, [], _++_, _+_, _∙_, _∷_, _≡_, ap, arith, false, le-ltb, length, lt-ltb, ltb, needs, not, not-true, sym, true}
 use Rattle.kernel.specs.{Fields.layoutOf, Outcomes.answerOf, declared.component.Entry.Entry}
-use Rattle.model.specs.{Interface.configureTests, Interface.listed, Interface.tooLong, Layouts.tablesOf, Refusals.Tests, Refusals.first, Rows.nodeTests, Tables.Tables, Tables.nodeAt, declared.Error.Error, declared.checks.Row.Row}
+use Rattle.model.specs.{Interface.configureTests, Interface.listed, Interface.tooLong, Layouts.tablesOf, Refusals.Tests, Refusals.first, Rows.nodeTests, Tables.Tables, Tables.nodeAt, declared.Error.Error, declared.rows.Row.Row}
 use Rattle.kernel.proofs.{Kernel.check_configure_pending_dependencies.Statement.statement, Laws.Lengths.list-sized, Laws.Lengths.sized}
 use Rattle.layouts.specs.{Rows.ofNode}
 use Rattle.layouts.proofs.{Laws.Declarations.Short, Laws.Declarations.length-listed, Laws.Nodes.Tested, Laws.Nodes.node-row, Laws.Nodes.rest, Laws.Nodes.tested, Laws.Rows.refuses-first, Laws.Rows.row-damaged, Laws.Rows.row-passes, Laws.Rows.row-refuses, Laws.Sound.SoundKernel, Laws.Sound.declaration-count-is, Laws.Sound.laid, Laws.Sound.tested-sound}

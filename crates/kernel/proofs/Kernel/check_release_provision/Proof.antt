@@ -1,6 +1,6 @@
 -- `kernel::Kernel::check_release_provision` meets its contract.
 use Rattle.model.proofs.Logic.{[], _∙_, needs, refl, sym}
-use Rattle.model.specs.{Interface.releaseProvisionTests, Layouts.tablesOf, Refusals.Tests, Rows.nodeTests, Tables.Tables, declared.checks.Row.Row}
+use Rattle.model.specs.{Interface.releaseProvisionTests, Layouts.tablesOf, Refusals.Tests, Rows.nodeTests, Tables.Tables, declared.rows.Row.Row}
 use Rattle.kernel.proofs.{Kernel.check_release_provision.Statement.statement, Laws.Lengths.sized}
 use Rattle.kernel.specs.{Fields.layoutOf}
 use Rattle.layouts.proofs.{Laws.Nodes.Tested, Laws.Nodes.rest, Laws.Nodes.tested, Laws.Rows.refused-row, Laws.Rows.row-passes, Laws.Rows.row-refuses}

@@ -1,7 +1,7 @@
 -- `kernel::Kernel::configure_pending_dependencies` meets its contract.
 use Rattle.model.proofs.Logic.{arith, needs}
 use Rattle.edits.specs.{declared.KeptDeclarations.KeptDeclarations}
-use Rattle.kernel.proofs.{Kernel.configure_pending_dependencies.Statement.statement, Laws.Edits.declarations-held, Laws.Outcomes.Answered, Laws.Outcomes.done-as, Laws.Outcomes.done-kernel, Laws.Outcomes.done-tests, Laws.Outcomes.kept, Laws.Lengths.list-sized, Laws.Lengths.sized}
+use Rattle.kernel.proofs.{Kernel.configure_pending_dependencies.Statement.statement, Laws.Edits.declarations-held, Laws.Outcomes.Answered, Laws.Outcomes.done-as, Laws.Outcomes.done-kernel, Laws.Outcomes.done-tests, Laws.Outcomes.refused-as, Laws.Lengths.list-sized, Laws.Lengths.sized}
 use Rattle.kernel.specs.{Fields.layoutOf}
 use Rattle.layouts.proofs.{Laws.Anew.HoldsDeclarations, Laws.Anew.holds-padded, Laws.Declarations.Configurable, Laws.Declarations.configurable, Laws.Declarations.configured-fits, Laws.Declarations.configured-laid, Laws.Declarations.others}
 use Rattle.model.specs.{Commands.Command}
@@ -47,7 +47,7 @@ returns c =
     done-as (whole (d .before .before)) (d .enum-told .given .1) _ (configured-laid (C d) (s d .args .id) (rest f) (n .append-ports .ensures))
 
 returns-2 : tie.Need-returns-2
-returns-2 c = kept (whole (c .before .before)) (c .enum-told2 .given .1)
+returns-2 c = refused-as (whole (c .before .before)) (c .enum-told2 .given .1)
 
 pub configure-pending-dependencies-spec : {M : Type 1} → statement M
 configure-pending-dependencies-spec = tie.close (tie.spec

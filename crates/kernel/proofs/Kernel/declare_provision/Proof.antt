@@ -1,9 +1,9 @@
 -- `kernel::Kernel::declare_provision` meets its contract.
 use Rattle.model.proofs.Logic.{Bool, [], _&&_, _∙_, _≡_, ap, false, le-leb, leb, length, lt-leb, needs, not, not-false, not-true, refl, true}
 use Rattle.layouts.proofs.{Laws.Declarations.declared-before, Laws.Declarations.declared-now, Laws.Declarations.own-is, Laws.Declarations.taken-is, Laws.Nodes.Tested, Laws.Nodes.rest, Laws.Nodes.tested, Laws.Sound.declaration-count-is}
-use Rattle.model.specs.{Commands.Command, Interface.own, Interface.taken, Layouts.tablesOf, Rows.nodeTests, Tables.Tables, declared.checks.Row.Row}
+use Rattle.model.specs.{Commands.Command, Interface.own, Interface.taken, Layouts.tablesOf, Rows.nodeTests, Tables.Tables, declared.rows.Row.Row}
 use Rattle.scans.specs.{declared.NodeFlags.NodeFlags}
-use Rattle.kernel.proofs.{Kernel.declare_provision.Statement.statement, Laws.Outcomes.answered, Laws.Outcomes.hands-accepted, Laws.Outcomes.hands-refusal, Laws.Outcomes.hands-refused, Laws.Lengths.sized}
+use Rattle.kernel.proofs.{Kernel.declare_provision.Statement.statement, Laws.Outcomes.answer-is, Laws.Outcomes.hands-accepted, Laws.Outcomes.hands-refusal, Laws.Outcomes.hands-refused, Laws.Lengths.sized}
 use Rattle.kernel.specs.{Fields.layoutOf}
 use Rattle.layouts.specs.{Rows.ofNode}
 use Rattle.model.proofs.{Laws.Refusals.of-passed, Laws.Refusals.skip, Laws.Refusals.stop}
@@ -74,7 +74,7 @@ returns-3 c =
     let g = r .before .before in
     let d = e (n g) in
     let row = rest (P d) _ ∙ skip _ _ _ (other g (r .before .if2 .left)) ∙ skip _ _ _ (full g (lt-leb _ _ (r .if3 .left))) ∙ of-passed [] tt in
-    answered (d .enum-told .given .1) (hands-accepted (P d .kernel) (command (s d)) row _ (declared-now (P d .kernel) (s d .args .id) (s d .args .port) (new g) (r .if3 .left) (c .provision .ensures)))
+    answer-is (d .enum-told .given .1) (hands-accepted (P d .kernel) (command (s d)) row _ (declared-now (P d .kernel) (s d .args .id) (s d .args .port) (new g) (r .if3 .left) (c .provision .ensures)))
 
 returns-4 : tie.Need-returns-4
 returns-4 c =
@@ -82,14 +82,14 @@ returns-4 c =
     let d = e f in
     let mine = provides f (not-false _ (c .if1 .left)) in
     let row = rest (P d) _ ∙ skip _ _ _ (owned _ _ mine) ∙ skip _ _ _ (owned _ _ mine) ∙ of-passed [] tt in
-    answered (d .enum-told .given .1) (hands-accepted (P d .kernel) (command (s d)) row _ (declared-before (P d .kernel) (s d .args .id) (s d .args .port) mine))
+    answer-is (d .enum-told .given .1) (hands-accepted (P d .kernel) (command (s d)) row _ (declared-before (P d .kernel) (s d .args .id) (s d .args .port) mine))
 
 returns-5 : tie.Need-returns-5
 returns-5 c =
     let a = c .before .before in
     let s = a .before in
     let r = c .enum-told2 .given .1 in
-    answered r (hands-refusal (sized (s .args .self) (s .good .0, tt)) (command s) (ofNode (nodeTests Row.Declare) (s .args .id)) _ refl (a .check-node .ensures) r)
+    answer-is r (hands-refusal (sized (s .args .self) (s .good .0, tt)) (command s) (ofNode (nodeTests Row.Declare) (s .args .id)) _ refl (a .check-node .ensures) r)
 
 pub declare-provision-spec : {M : Type 1} → statement M
 declare-provision-spec = tie.close (tie.spec

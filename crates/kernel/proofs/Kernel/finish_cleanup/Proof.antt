@@ -2,7 +2,7 @@
 use Rattle.model.proofs.Logic.{_∙_, _≡_, needs, refl, sym, true, ℕ}
 use Rattle.kernel.specs.{Fields.layoutOf, declared.Kernel.Kernel}
 use Rattle.model.specs.{Commands.Command, Layouts.tablesOf, Records.deadFor, Records.restoredNode, Tables.present}
-use Rattle.kernel.proofs.{Kernel.finish_cleanup.Statement.statement, Laws.Outcomes.Answered, Laws.Outcomes.done-as, Laws.Outcomes.done-below, Laws.Outcomes.done-kernel, Laws.Outcomes.done-present, Laws.Outcomes.kept, Laws.Lengths.sized}
+use Rattle.kernel.proofs.{Kernel.finish_cleanup.Statement.statement, Laws.Outcomes.Answered, Laws.Outcomes.done-as, Laws.Outcomes.done-below, Laws.Outcomes.done-kernel, Laws.Outcomes.done-present, Laws.Outcomes.refused-as, Laws.Lengths.sized}
 use Rattle.layouts.proofs.{Laws.Anew.HoldsLinks, Laws.Anew.links-changed, Laws.Nodes.node-and-links, Laws.Sound.SoundKernel}
 use Rattle.sizes.specs.{Sizes.sizes}
 use Rattle.kernel.proofs.Kernel.finish_cleanup.Tie as tie
@@ -40,7 +40,7 @@ returns c =
     done-as (whole (a d)) (d .enum-told .given .1) _ (node-and-links (K d) (id d) (here d) restoredNode (c .change .ensures) _ dead)
 
 returns-2 : tie.Need-returns-2
-returns-2 c = kept (whole (c .before .before)) (c .enum-told2 .given .1)
+returns-2 c = refused-as (whole (c .before .before)) (c .enum-told2 .given .1)
 
 pub finish-cleanup-spec : {M : Type 1} → statement M
 finish-cleanup-spec = tie.close (tie.spec

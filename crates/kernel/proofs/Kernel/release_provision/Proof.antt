@@ -1,6 +1,6 @@
 -- `kernel::Kernel::release_provision` meets its contract.
 use Rattle.model.proofs.Logic.{needs}
-use Rattle.kernel.proofs.{Kernel.release_provision.Statement.statement, Laws.Edits.declarations-held, Laws.Outcomes.Answered, Laws.Outcomes.done-as, Laws.Outcomes.done-kernel, Laws.Outcomes.kept, Laws.Lengths.sized}
+use Rattle.kernel.proofs.{Kernel.release_provision.Statement.statement, Laws.Edits.declarations-held, Laws.Outcomes.Answered, Laws.Outcomes.done-as, Laws.Outcomes.done-kernel, Laws.Outcomes.refused-as, Laws.Lengths.sized}
 use Rattle.model.specs.{Commands.Command, Layouts.tablesOf}
 use Rattle.layouts.proofs.{Laws.Anew.declarations-anew}
 use Rattle.kernel.proofs.Kernel.release_provision.Tie as tie
@@ -19,7 +19,7 @@ returns c =
     done-as a done _ (declarations-anew (done-kernel a done) _ (declarations-held (f .kept-declarations .ensures)))
 
 returns-2 : tie.Need-returns-2
-returns-2 c = kept (whole (c .before .before)) (c .enum-told2 .given .1)
+returns-2 c = refused-as (whole (c .before .before)) (c .enum-told2 .given .1)
 
 pub release-provision-spec : {M : Type 1} → statement M
 release-provision-spec = tie.close (tie.spec

@@ -1,0 +1,227 @@
+// The stored records: read, made and tested for blanks here, so that how they are stored is said in one place.
+ghost use mathlib.Core.Path.{_≡_};
+ghost use mathlib.Core.Bool.{_&&_};
+ghost use Rattle.model.specs.Records.{bindingIn, blankDeclaration, blankLink, blankNode, consumerIn, deadFor, declarationOf, declaredPort, isBlankDeclaration, isBlankLink, isBlankNode, liveLink, newNode, ownerIn, parentIn, portIn, providerIn, provision, storedParent, withPhase};
+use model::Binding;
+use model::Declaration;
+use model::Link;
+use model::Node;
+use model::Parent;
+use model::Phase;
+use model::Port;
+use model::StoredParent;
+
+pub fn stored_parent(parent: Parent) -> StoredParent
+    ensures { λ r. ⌜ r ≡ storedParent parent ⌝ }
+{
+    match parent {
+        Parent::None => StoredParent::None,
+        Parent::Of(p) => StoredParent::Of(p),
+    }
+}
+
+pub fn parent_in(node: Node) -> Parent
+    ensures { λ r. ⌜ r ≡ parentIn node ⌝ }
+{
+    let stored = node.parent;
+    match stored {
+        StoredParent::None => Parent::None,
+        StoredParent::Of(p) => Parent::Of(p),
+    }
+}
+
+pub fn owner_in(declaration: Declaration) -> usize
+    ensures { λ r. ⌜ r ≡ ownerIn declaration ⌝ }
+{
+    declaration.owner
+}
+
+pub fn declared_port(declaration: Declaration) -> Port
+    ensures { λ r. ⌜ r ≡ declaredPort declaration ⌝ }
+{
+    declaration.port
+}
+
+pub fn consumer_in(link: Link) -> usize
+    ensures { λ r. ⌜ r ≡ consumerIn link ⌝ }
+{
+    link.consumer
+}
+
+pub fn provider_in(link: Link) -> usize
+    ensures { λ r. ⌜ r ≡ providerIn link ⌝ }
+{
+    link.provider
+}
+
+pub fn port_in(link: Link) -> Port
+    ensures { λ r. ⌜ r ≡ portIn link ⌝ }
+{
+    Port {
+        key: link.key,
+        realm: link.realm,
+    }
+}
+
+pub fn binding_in(link: Link) -> Binding
+    ensures { λ r. ⌜ r ≡ bindingIn link ⌝ }
+{
+    Binding {
+        key: link.key,
+        realm: link.realm,
+        provider: link.provider,
+    }
+}
+
+pub fn new_node(parent: Parent) -> Node
+    ensures { λ r. ⌜ r ≡ newNode parent ⌝ }
+{
+    let stored = stored_parent(parent);
+    Node {
+        present: true,
+        retired: false,
+        phase: Phase::Inactive,
+        restoring: false,
+        parent: stored,
+        generation: 0,
+    }
+}
+
+pub fn with_phase(phase: Phase, node: Node) -> Node
+    ensures { λ r. ⌜ r ≡ withPhase phase node ⌝ }
+{
+    let parent = node.parent;
+    Node {
+        present: node.present,
+        retired: node.retired,
+        phase: phase,
+        restoring: node.restoring,
+        parent: parent,
+        generation: node.generation,
+    }
+}
+
+// A provision or a dependency.
+pub fn declaration_of(owner: usize, provides: bool, port: Port) -> Declaration
+    ensures { λ r. ⌜ r ≡ declarationOf owner provides port ⌝ }
+{
+    Declaration {
+        owner: owner,
+        port: port,
+        provides: provides,
+    }
+}
+
+pub fn provision(owner: usize, port: Port) -> Declaration
+    ensures { λ r. ⌜ r ≡ provision owner port ⌝ }
+{
+    declaration_of(owner, true, port)
+}
+
+pub fn live_link(consumer: usize, binding: Binding) -> Link
+    ensures { λ r. ⌜ r ≡ liveLink consumer binding ⌝ }
+{
+    Link {
+        key: binding.key,
+        realm: binding.realm,
+        consumer: consumer,
+        provider: binding.provider,
+        live: true,
+    }
+}
+
+// A link of this consumer becomes dead; another stays.
+pub fn dead_for(consumer: usize, mut link: Link) -> Link
+    ensures { λ r. ⌜ r ≡ deadFor consumer link ⌝ }
+{
+    link.live = link.live & !(link.consumer == consumer);
+    link
+}
+
+pub fn blank_node() -> Node
+    ensures { λ r. ⌜ r ≡ blankNode ⌝ }
+{
+    Node {
+        present: false,
+        retired: false,
+        phase: Phase::Inactive,
+        restoring: false,
+        parent: StoredParent::None,
+        generation: 0,
+    }
+}
+
+pub fn blank_declaration() -> Declaration
+    ensures { λ r. ⌜ r ≡ blankDeclaration ⌝ }
+{
+    Declaration {
+        owner: 0,
+        port: Port { key: 0, realm: 0 },
+        provides: false,
+    }
+}
+
+pub fn blank_link() -> Link
+    ensures { λ r. ⌜ r ≡ blankLink ⌝ }
+{
+    Link {
+        key: 0,
+        realm: 0,
+        consumer: 0,
+        provider: 0,
+        live: false,
+    }
+}
+
+pub fn is_blank_node(node: Node) -> bool
+    ensures { λ r. ⌜ r ≡ isBlankNode node ⌝ }
+{
+    let phase = node.phase;
+    let parent = parent_in(node);
+    let inactive = crate::is_inactive(phase);
+    let none = crate::no_parent(parent);
+    !node.present & !node.retired & inactive & !node.restoring & none & (node.generation == 0)
+}
+
+pub fn is_blank_declaration(declaration: Declaration) -> bool
+    ensures { λ r. ⌜ r ≡ isBlankDeclaration declaration ⌝ }
+{
+    let port = declaration.port;
+    (declaration.owner == 0) & (port.key == 0) & (port.realm == 0) & !declaration.provides
+}
+
+pub fn is_blank_link(link: Link) -> bool
+    ensures { λ r. ⌜ r ≡ isBlankLink link ⌝ }
+{
+    let port = (link.key == 0) & (link.realm == 0);
+    port & (link.consumer == 0) & (link.provider == 0) & !link.live
+}
+
+// A declaration that is blank exactly when both are.
+pub fn either_declaration(a: Declaration, b: Declaration) -> Declaration
+    ensures { λ r. ⌜ isBlankDeclaration r ≡ isBlankDeclaration a && isBlankDeclaration b ⌝ }
+{
+    let p = a.port;
+    let q = b.port;
+    Declaration {
+        owner: a.owner | b.owner,
+        port: Port {
+            key: p.key | q.key,
+            realm: p.realm | q.realm,
+        },
+        provides: a.provides | b.provides,
+    }
+}
+
+// A link that is blank exactly when both are.
+pub fn either_link(a: Link, b: Link) -> Link
+    ensures { λ r. ⌜ isBlankLink r ≡ isBlankLink a && isBlankLink b ⌝ }
+{
+    Link {
+        key: a.key | b.key,
+        realm: a.realm | b.realm,
+        consumer: a.consumer | b.consumer,
+        provider: a.provider | b.provider,
+        live: a.live | b.live,
+    }
+}
