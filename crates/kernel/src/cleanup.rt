@@ -1,7 +1,7 @@
 // Cleanup and removal.
 ghost use mathlib.Core.Path.{_≡_};
 ghost use mathlib.Core.List.{_++_};
-ghost use Rattle.kernel.specs.Outcomes.{answerOf, command, outcome};
+ghost use Rattle.kernel.specs.Outcomes.{Returns, answerOf};
 ghost use Rattle.model.specs.Commands.{Command};
 ghost use Rattle.model.specs.Rows.{changedNode, nodeTests};
 ghost use Rattle.model.specs.Tables.{nodeAt};
@@ -10,13 +10,14 @@ use crate::Kernel;
 use crate::Outcome;
 use crate::component::change;
 use model::Answer;
+use model::Error;
 use model::Row;
 use model::Transition;
 
 impl Kernel {
     // begin_cleanup: an Unloading component that no live link has as provider starts restoring.
     pub fn begin_cleanup(mut self, id: usize) -> Outcome
-        ensures { λ r. ⌜ r ≡ outcome (command self (Command.beginCleanup id)) ⌝ }
+        ensures { λ r. ⌜ Returns self (Command.beginCleanup id) r ⌝ }
     {
         let answer = self.check_update(id, Row::Unloading, Transition::BeginCleanup);
         if let Answer::Done = answer {
@@ -32,7 +33,7 @@ impl Kernel {
 
     // finish_cleanup: a restoring component becomes Inactive, and its links dead.
     pub fn finish_cleanup(mut self, id: usize) -> Outcome
-        ensures { λ r. ⌜ r ≡ outcome (command self (Command.finishCleanup id)) ⌝ }
+        ensures { λ r. ⌜ Returns self (Command.finishCleanup id) r ⌝ }
     {
         let answer = self.check_node(id, Row::Restoring);
         if let Answer::Done = answer {
@@ -52,7 +53,7 @@ impl Kernel {
 
     // remove: a retired and Inactive component without a present child is no longer present.
     pub fn remove(mut self, id: usize) -> Outcome
-        ensures { λ r. ⌜ r ≡ outcome (command self (Command.remove id)) ⌝ }
+        ensures { λ r. ⌜ Returns self (Command.remove id) r ⌝ }
     {
         let answer = self.check_update(id, Row::Retired, Transition::Remove);
         if let Answer::Done = answer {
@@ -70,13 +71,17 @@ impl Kernel {
     fn check_update(self, id: usize, row: Row, transition: Transition) -> Answer
         ensures { λ r. ⌜ r ≡ answerOf self (λ T. nodeTests row (nodeAt (T .nodes) id) ++ updateTests T id (changedNode transition (nodeAt (T .nodes) id))) ⌝ }
     {
-        let checked = self.check_node(id, row);
+        let entry = self.entry(id);
+        if !entry.sound {
+            return Answer::Refused(Error::Damaged);
+        }
+        let node = entry.node;
+        let checked = records::check(row, node);
         if let Answer::Refused(error) = checked {
             return Answer::Refused(error);
         }
+        let new = records::changed(transition, node);
         let nodes = self.nodes;
-        let node = nodes[id];
-        let new = records::transitions::changed(transition, node);
         let issued = self.node_count;
         let links = self.links;
         let linked = self.link_count;

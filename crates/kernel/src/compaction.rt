@@ -1,6 +1,6 @@
 // Compaction.
 ghost use mathlib.Core.Path.{_≡_};
-ghost use Rattle.kernel.specs.Outcomes.{command, compactionOutcome};
+ghost use Rattle.kernel.specs.Outcomes.{CompactionReturns};
 ghost use Rattle.model.specs.Commands.{Command};
 use crate::CompactionOutcome;
 use crate::Kernel;
@@ -11,7 +11,7 @@ use model::Error;
 impl Kernel {
     // compact_bindings: keeps the live links.
     pub fn compact_bindings(mut self) -> CompactionOutcome
-        ensures { λ r. ⌜ r ≡ compactionOutcome (command self Command.compactBindings) ⌝ }
+        ensures { λ r. ⌜ CompactionReturns self Command.compactBindings r ⌝ }
     {
         let mut answer = Answer::Refused(Error::Damaged);
         let mut removed = 0;
@@ -35,7 +35,7 @@ impl Kernel {
 
     // compact_declarations: keeps the declarations of present owners.
     pub fn compact_declarations(mut self) -> CompactionOutcome
-        ensures { λ r. ⌜ r ≡ compactionOutcome (command self Command.compactDeclarations) ⌝ }
+        ensures { λ r. ⌜ CompactionReturns self Command.compactDeclarations r ⌝ }
     {
         let mut answer = Answer::Refused(Error::Damaged);
         let mut removed = 0;

@@ -1,7 +1,7 @@
 // Insertion.
 ghost use mathlib.Core.Path.{_≡_};
 ghost use Rattle.kernel.specs.Fields.{ask};
-ghost use Rattle.kernel.specs.Outcomes.{command, insertOutcome};
+ghost use Rattle.kernel.specs.Outcomes.{InsertReturns};
 ghost use Rattle.model.specs.Answers.{answer};
 ghost use Rattle.model.specs.Commands.{Command};
 ghost use Rattle.model.specs.Insertion.{checkInsert};
@@ -67,7 +67,7 @@ impl Kernel {
         dependencies: PortList,
         provisions: PortList,
     ) -> InsertOutcome
-        ensures { λ r. ⌜ r ≡ insertOutcome (command self (Command.insert parent dependencies provisions)) ⌝ }
+        ensures { λ r. ⌜ InsertReturns self (Command.insert parent dependencies provisions) r ⌝ }
     {
         let checked = self.check_insert(parent, dependencies, provisions);
         if let Answer::Refused(error) = checked {

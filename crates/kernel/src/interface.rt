@@ -1,6 +1,6 @@
 // Interface commands.
 ghost use mathlib.Core.Path.{_≡_};
-ghost use Rattle.kernel.specs.Outcomes.{answerOf, command, outcome};
+ghost use Rattle.kernel.specs.Outcomes.{Returns, answerOf};
 ghost use Rattle.model.specs.Commands.{Command};
 ghost use Rattle.model.specs.Interface.{configureTests, releaseProvisionTests};
 ghost use Rattle.sizes.specs.Sizes.{sizes};
@@ -18,7 +18,7 @@ use sizes::IDENTITIES;
 impl Kernel {
     // declare_provision: appends a provision, unless this owner provides the port.
     pub fn declare_provision(mut self, id: usize, port: Port) -> Outcome
-        ensures { λ r. ⌜ r ≡ outcome (command self (Command.declareProvision id port)) ⌝ }
+        ensures { λ r. ⌜ Returns self (Command.declareProvision id port) r ⌝ }
     {
         let mut answer = self.check_node(id, Row::Declare);
         if let Answer::Done = answer {
@@ -47,7 +47,7 @@ impl Kernel {
 
     // release_provision: drops every provision of this owner and port.
     pub fn release_provision(mut self, id: usize, port: Port) -> Outcome
-        ensures { λ r. ⌜ r ≡ outcome (command self (Command.releaseProvision id port)) ⌝ }
+        ensures { λ r. ⌜ Returns self (Command.releaseProvision id port) r ⌝ }
     {
         let answer = self.check_release_provision(id, port);
         if let Answer::Done = answer {
@@ -84,7 +84,7 @@ impl Kernel {
 
     // configure_pending_dependencies: replaces the dependencies of a component that has never begun.
     pub fn configure_pending_dependencies(mut self, id: usize, list: PortList) -> Outcome
-        ensures { λ r. ⌜ r ≡ outcome (command self (Command.configurePendingDependencies id list)) ⌝ }
+        ensures { λ r. ⌜ Returns self (Command.configurePendingDependencies id list) r ⌝ }
     {
         let answer = self.check_configure_pending_dependencies(id, list);
         if let Answer::Done = answer {

@@ -1,7 +1,7 @@
 // Lifecycle.
 ghost use mathlib.Core.Path.{_≡_};
 ghost use Rattle.kernel.specs.Fields.{ask};
-ghost use Rattle.kernel.specs.Outcomes.{answerOf, command, outcome};
+ghost use Rattle.kernel.specs.Outcomes.{Returns, answerOf};
 ghost use Rattle.model.specs.Answers.{answer};
 ghost use Rattle.model.specs.Commands.{Command};
 ghost use Rattle.model.specs.Lifecycle.{checkIteration, leaveIfChangedTests};
@@ -19,7 +19,7 @@ use sizes::LINKS;
 impl Kernel {
     // begin: an Inactive component with a target becomes Loading, and the target its live links.
     pub fn begin(mut self, id: usize) -> Outcome
-        ensures { λ r. ⌜ r ≡ outcome (command self (Command.begin id)) ⌝ }
+        ensures { λ r. ⌜ Returns self (Command.begin id) r ⌝ }
     {
         if !self.sound() {
             return Outcome {
@@ -103,7 +103,7 @@ impl Kernel {
 
     // finish: a Loading component that still has a target becomes Active.
     pub fn finish(mut self, id: usize) -> Outcome
-        ensures { λ r. ⌜ r ≡ outcome (command self (Command.finish id)) ⌝ }
+        ensures { λ r. ⌜ Returns self (Command.finish id) r ⌝ }
     {
         let answer = self.check_iteration(id);
         if let Answer::Done = answer {
@@ -119,7 +119,7 @@ impl Kernel {
 
     // leave: a Loading or Active component becomes Unloading.
     pub fn leave(mut self, id: usize) -> Outcome
-        ensures { λ r. ⌜ r ≡ outcome (command self (Command.leave id)) ⌝ }
+        ensures { λ r. ⌜ Returns self (Command.leave id) r ⌝ }
     {
         let answer = self.check_node(id, Row::Running);
         if let Answer::Done = answer {
@@ -135,7 +135,7 @@ impl Kernel {
 
     // leave_if_changed: a Loading or Active component that has no target becomes Unloading.
     pub fn leave_if_changed(mut self, id: usize) -> Outcome
-        ensures { λ r. ⌜ r ≡ outcome (command self (Command.leaveIfChanged id)) ⌝ }
+        ensures { λ r. ⌜ Returns self (Command.leaveIfChanged id) r ⌝ }
     {
         let answer = self.check_leave_if_changed(id);
         if let Answer::Done = answer {
@@ -176,7 +176,7 @@ impl Kernel {
 
     // retire: in each phase, and twice.
     pub fn retire(mut self, id: usize) -> Outcome
-        ensures { λ r. ⌜ r ≡ outcome (command self (Command.retire id)) ⌝ }
+        ensures { λ r. ⌜ Returns self (Command.retire id) r ⌝ }
     {
         let answer = self.check_node(id, Row::Present);
         if let Answer::Done = answer {

@@ -1,4 +1,4 @@
--- The fourteen commands: for each its row of tests, the tables that it leaves and what it replies; then a step and a run.
+-- The fourteen commands: for each its row of tests, the tables that it leaves and what it replies; then a step.
 use mathlib.Core.List.{List, [], _∷_}
 use mathlib.Core.Option.{Option, none, some}
 use Prim.Native.Nat.{ℕ}
@@ -14,7 +14,7 @@ use Rattle.model.specs.Interface.{configureTests, declareProvisionTests,
 use Rattle.model.specs.Lifecycle.{beginCleanupTests, beginTests, begun, cleanupBegun, cleanupFinished, finishCleanupTests, finished, iterationTests, leaveIfChangedTests, leaveTests, left, removeTests, removedFrom, retireTests, retiredFrom}
 use Rattle.model.specs.Refusals.{Reply, Tests, first}
 use Rattle.model.specs.Sizes.{Sizes}
-use Rattle.model.specs.Tables.{Tables, empty, withNode}
+use Rattle.model.specs.Tables.{Tables, withNode}
 use Rattle.model.specs.UpdateNode.{updateTests}
 
 pub data Command : Type 0 where
@@ -95,15 +95,6 @@ settle (some e) T o = record { tables = T; reply = Reply.refused e }
 
 unfoldable pub step : Sizes → Tables → Command → Step
 step S T c = settle (first (tests S T c)) T (record { tables = result T c; reply = report T c })
-
--- a list of commands, each on what the one before handed back, after a refusal too
-unfoldable pub runFrom : Sizes → Tables → List Command → Tables
-runFrom S T [] = T
-runFrom S T (c ∷ cs) = runFrom S ((step S T c) .tables) cs
-
--- the tables of a reached kernel
-abbrev pub run : Sizes → List Command → Tables
-run S cs = runFrom S empty cs
 
 -- update_node, which is no command: its tests, and the node written anew
 unfoldable pub updateNode : Tables → ℕ → Node → Step

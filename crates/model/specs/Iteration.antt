@@ -1,4 +1,4 @@
--- The iteration rule: demand 3 in the words of document 01.
+-- The iteration rule: demand 3 in the words of document 01, over the sizes.
 use mathlib.Core.Path.{_≡_}
 use mathlib.Core.Bool.{Bool, _&&_, cond, false, true}
 use mathlib.Core.List.{List, [], _∷_}
@@ -9,14 +9,29 @@ use lib.Dec.{eqb}
 use Rattle.model.specs.declared.Binding.{Binding}
 use Rattle.model.specs.declared.Error.{Error}
 use Rattle.model.specs.declared.Phase.{Phase}
-use Rattle.model.specs.Commands.{Command, run, step}
-use Rattle.model.specs.Lifecycle.{begun, checkIteration}
+use Rattle.model.specs.Commands.{Command}
+use Rattle.model.specs.Kernels.{asked, commanded, emptyKernel, reached}
+use Rattle.model.specs.Layouts.{Layout}
+use Rattle.model.specs.Lifecycle.{checkIteration}
 use Rattle.model.specs.Observers.{phase}
 use Rattle.model.specs.Records.{isLoading, isRunning}
 use Rattle.model.specs.Refusals.{Reply, accepted}
 use Rattle.model.specs.Resolution.{committed, target}
 use Rattle.model.specs.Sizes.{Sizes}
-use Rattle.model.specs.Tables.{Tables, empty}
+
+-- ---- what the observers and check_iteration give of a kernel
+
+abbrev pub targetOf : Sizes → Layout → ℕ → Option (List Binding)
+targetOf S k id = asked S k none (λ T. target T id)
+
+abbrev pub committedOf : Sizes → Layout → ℕ → List Binding
+committedOf S k id = asked S k [] (λ T. committed (T .links) id)
+
+abbrev pub iterationOf : Sizes → Layout → ℕ → Reply
+iterationOf S k id = asked S k (Reply.refused Error.Damaged) (λ T. checkIteration T id)
+
+abbrev pub phaseOf : Sizes → Layout → ℕ → Option Phase
+phaseOf S k id = asked S k none (λ T. phase T id)
 
 -- ---- the bindings of the last accepted begin, told from the calls
 
@@ -37,17 +52,14 @@ begins id (Command.remove j) = false
 begins id Command.compactBindings = false
 begins id Command.compactDeclarations = false
 
--- after one more command on T: what target gives on T at an accepted begin of the component, else what was noted before
-unfoldable pub noted : Sizes → Tables → ℕ → Command → Option (List Binding) → Option (List Binding)
-noted S T id c a = cond (begins id c && accepted ((step S T c) .reply)) (target T id) a
+-- what target gave on the kernel handed to the component's latest begin that was accepted
+unfoldable pub lastFrom : Sizes → Layout → ℕ → List Command → Option (List Binding) → Option (List Binding)
+lastFrom S k id [] a = a
+lastFrom S k id (c ∷ cs) a = lastFrom S ((commanded S k c) .kernel) id cs (cond (begins id c && accepted ((commanded S k c) .reply)) (targetOf S k id) a)
 
-unfoldable pub lastFrom : Sizes → Tables → ℕ → List Command → Option (List Binding) → Option (List Binding)
-lastFrom S T id [] a = a
-lastFrom S T id (c ∷ cs) a = lastFrom S ((step S T c) .tables) id cs (noted S T id c a)
-
--- what target gave at the component's last accepted begin; none if there was no such begin
+-- in a list from the empty kernel; none if there was no such begin
 abbrev pub last : Sizes → List Command → ℕ → Option (List Binding)
-last S cs id = lastFrom S empty id cs none
+last S cs id = lastFrom S (emptyKernel S) id cs none
 
 -- ---- the rule, of one component
 
@@ -69,10 +81,12 @@ pub record Rule (phase : Option Phase) (begun : Option (List Binding)) (committe
   pub leave-accepts : runs phase ≡ true → ((leaving ≡ Reply.done) × (after ≡ some Phase.Unloading)) ↔ (target ≡ begun → ⊥)
   pub leave-refuses : runs phase ≡ true → target ≡ begun → leaving ≡ Reply.refused Error.Changed
 
--- on tables, for a component and what was noted of it
-abbrev pub RuleAt : Sizes → Tables → ℕ → Option (List Binding) → Type 0
-RuleAt S T id a = let o = step S T (Command.leaveIfChanged id) in Rule (phase T id) a (committed (T .links) id) (target T id) (checkIteration T id) (o .reply) (phase (o .tables) id)
+-- of a kernel's component, with what target gave at its last accepted begin
+abbrev pub RuleAt : Sizes → Layout → ℕ → Option (List Binding) → Type 0
+RuleAt S k id begun =
+    let o = commanded S k (Command.leaveIfChanged id) in
+    Rule (phaseOf S k id) begun (committedOf S k id) (targetOf S k id) (iterationOf S k id) (o .reply) (phaseOf S (o .kernel) id)
 
 -- one claim about every list of commands
 abbrev pub IterationRule : Type 0
-IterationRule = (S : Sizes) (cs : List Command) (id : ℕ) → RuleAt S (run S cs) id (last S cs id)
+IterationRule = (S : Sizes) (cs : List Command) (id : ℕ) → RuleAt S (reached S cs) id (last S cs id)

@@ -32,6 +32,13 @@ accepted (Reply.issued id) = true
 accepted (Reply.removed n) = true
 accepted (Reply.refused e) = false
 
+-- its number: 0 but for a refusal
+abbrev pub replyNumber : Reply → ℕ
+replyNumber Reply.done = 0
+replyNumber (Reply.issued id) = 0
+replyNumber (Reply.removed n) = 0
+replyNumber (Reply.refused e) = number e
+
 -- a row of document 01's table: tests, each with its refusal, in order
 abbrev pub Tests : Type 0
 Tests = List (Bool × Error)

@@ -60,7 +60,7 @@ module _ {S : Sizes} {k : Layout} (K : SoundKernel S k) where
   refuses-first f us {a} e {x} r = refused-among (f (tablesOf k)) us a x (e ∙ sym (row-is f)) r
 
   pub refused-by : (c : Command) {x : Error} → first (tests S (tablesOf k) c) ≡ some x → Refused S k c x
-  refused-by c f = commanded-refused S k c _ (K .sized) (K .sound) f
+  refused-by c f = commanded-refused S k c _ (K .sound) f
 
   pub accepted-by : (c : Command) → first (tests S (tablesOf k) c) ≡ none → Accepted S k c
   accepted-by c f = commanded-accepted S k c (K .sound) (passed _ f)

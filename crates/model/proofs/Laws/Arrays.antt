@@ -8,6 +8,11 @@ module _ {A : Type 0} where
   unfolding padded
   length-padded n d xs l = rw (length-append xs (replicate (n - length xs) d), length-replicate (n - length xs) d) (omega arith)
 
+  pub take-most : (n : ℕ) (xs : List A) → length (take n xs) ≤ n
+  take-most zero xs = omega arith
+  take-most (suc n) [] = omega arith
+  take-most (suc n) (x ∷ xs) = omega (arith, take-most n xs)
+
   pub take-padded : (n : ℕ) (d : A) (xs : List A) → take (length xs) (padded n d xs) ≡ xs
   unfolding padded
   take-padded n d xs = take-append-seam xs (replicate (n - length xs) d)

@@ -1,7 +1,7 @@
 -- Every command keeps soundness, and so does every list of commands from the empty kernel.
 use Rattle.model.proofs.Logic.{List, List·Memᴰ·not-nil, [], _∷_, _≡_, arith, refl, true}
 use Rattle.model.proofs.{Laws.Facts.Sound, Laws.Facts.blank-ok, Laws.Facts.facts, Laws.Facts.of-facts, Laws.Refusals.Passed, Laws.Refusals.step-keeps, Theorems.Begin.begun-sound, Theorems.Compaction.bindingsCompacted-sound, Theorems.Compaction.declarationsCompacted-sound, Theorems.FinishCleanup.cleanupFinished-sound, Theorems.Insertion.inserted-sound, Theorems.Interface.dependenciesConfigured-sound, Theorems.Interface.provisionDeclared-sound, Theorems.Interface.provisionReleased-sound, Theorems.Lifecycle.cleanupBegun-sound, Theorems.Lifecycle.finished-sound, Theorems.Lifecycle.left-sound, Theorems.Lifecycle.removedFrom-sound, Theorems.Lifecycle.retiredFrom-sound}
-use Rattle.model.specs.{Commands.Command, Commands.result, Commands.run, Commands.runFrom, Commands.step, Commands.tests, Lists.onward, Sizes.Sizes, Soundness.sound, Tables.Tables, Tables.empty, Tables.nodeAt}
+use Rattle.model.specs.{Commands.Command, Commands.result, Commands.step, Commands.tests, Lists.onward, Sizes.Sizes, Soundness.sound, Tables.Tables, Tables.empty, Tables.nodeAt}
 
 pub result-sound : (S : Sizes) (T : Tables) (c : Command) → Sound S T → Passed (tests S T c) → Sound S (result T c)
 result-sound S T (Command.insert q ds ps) k p = inserted-sound S T q ds ps k p
@@ -34,6 +34,16 @@ empty-sound S = of-facts S empty (record {
 
 pub step-sound : (S : Sizes) (T : Tables) (c : Command) → sound S T ≡ true → sound S ((step S T c) .tables) ≡ true
 step-sound S T c h = step-keeps (λ U. sound S U ≡ true) S T c h (λ p. of-facts S (result T c) (result-sound S T c (facts S T h) p))
+
+-- ---- a list of commands on tables, each on what the one before left
+
+unfoldable pub runFrom : Sizes → Tables → List Command → Tables
+runFrom S T [] = T
+runFrom S T (c ∷ cs) = runFrom S ((step S T c) .tables) cs
+
+-- the tables of a reached kernel
+abbrev pub run : Sizes → List Command → Tables
+run S cs = runFrom S empty cs
 
 pub runFrom-sound : (S : Sizes) (T : Tables) (cs : List Command) → sound S T ≡ true → sound S (runFrom S T cs) ≡ true
 unfolding runFrom

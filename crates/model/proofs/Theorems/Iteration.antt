@@ -1,8 +1,8 @@
--- The iteration rule, of every list of commands.
+-- The iteration rule on tables.
 use Rattle.model.proofs.Logic.{Bool, List, List·Memᴰ, List·Memᴰ·head, List·Memᴰ·tail, Option, [], _∙_, _∷_, _≡_, ap, arith, cons≢nil, false, head-eq-of-cons-eq, map, nil≢cons, none, not, refl, some, sym, tail-eq-of-cons-eq, true, ℕ}
 use contract.Running.{tables}
-use Rattle.model.specs.{Commands.Command, Commands.Step, Commands.run, Commands.settle, Commands.step, Iteration.IterationRule, Iteration.RuleAt, Iteration.last, Iteration.loads, Iteration.runs, Lifecycle.checkIteration, Lifecycle.iterationTests, Lifecycle.leaveIfChangedTests, Lifecycle.left, Lifecycle.phaseAt, Lists.isNone, Lists.keep, Observers.phase, Records.bindingIn, Records.consumerIn, Records.isLoading, Records.isRunning, Records.portIn, Records.portOf, Records.providerIn, Records.provision, Records.withPhase, Refusals.Reply, Refusals.first, Refusals.orElse, Resolution.committed, Resolution.dependencyPorts, Resolution.isLiveLinkOf, Resolution.target, Sizes.Sizes, Soundness.sound, Tables.Tables, Tables.empty, Tables.nodeAt, Tables.present, declared.Binding.Binding, declared.Error.Error, declared.Phase.Phase, declared.records.Link.Link}
-use Rattle.model.proofs.{Laws.Booleans.clash, Laws.Committed.live-link-of, Laws.Facts.LiveOk, Laws.Facts.Safe, Laws.Facts.facts, Laws.Lists.in-keep, Laws.Lists.in-map, Laws.Nodes.at-same, Laws.Nodes.present-lt, Laws.Phases.loading-running, Laws.Phases.running-installed, Laws.Refusals.skip, Laws.Resolution.Resolved, Laws.Resolution.Targeted, Laws.Resolution.bound-ports, Laws.Resolution.target-resolved, Laws.Resolution.targeted, Theorems.Commands.empty-sound, Theorems.Commands.run-sound, Theorems.IterationInvariant.IterationInvariant, Theorems.IterationInvariant.empty-kept, Theorems.IterationInvariant.from-kept}
+use Rattle.model.specs.{Commands.Command, Commands.Step, Commands.settle, Commands.step, Iteration.Rule, Iteration.loads, Iteration.runs, Lifecycle.checkIteration, Lifecycle.iterationTests, Lifecycle.leaveIfChangedTests, Lifecycle.left, Lifecycle.phaseAt, Lists.isNone, Lists.keep, Observers.phase, Records.bindingIn, Records.consumerIn, Records.isLoading, Records.isRunning, Records.portIn, Records.portOf, Records.providerIn, Records.provision, Records.withPhase, Refusals.Reply, Refusals.first, Refusals.orElse, Resolution.committed, Resolution.dependencyPorts, Resolution.isLiveLinkOf, Resolution.target, Sizes.Sizes, Soundness.sound, Tables.Tables, Tables.nodeAt, Tables.present, declared.Binding.Binding, declared.Error.Error, declared.Phase.Phase, declared.records.Link.Link}
+use Rattle.model.proofs.{Laws.Booleans.clash, Laws.Committed.live-link-of, Laws.Facts.LiveOk, Laws.Facts.Safe, Laws.Facts.facts, Laws.Lists.in-keep, Laws.Lists.in-map, Laws.Nodes.at-same, Laws.Nodes.present-lt, Laws.Phases.loading-running, Laws.Phases.running-installed, Laws.Refusals.skip, Laws.Resolution.Resolved, Laws.Resolution.Targeted, Laws.Resolution.bound-ports, Laws.Resolution.target-resolved, Laws.Resolution.targeted, Theorems.IterationInvariant.IterationInvariant}
 
 pub same-bindings : (bs cs : List Binding) → map portOf bs ≡ map portOf cs → ((b c : Binding) → List·Memᴰ b bs → List·Memᴰ c cs → portOf b ≡ portOf c → b .provider ≡ c .provider) → bs ≡ cs
 same-bindings [] [] e f = refl
@@ -72,6 +72,9 @@ module _ (S : Sizes) (T : Tables) (id : ℕ) (t : present (T .nodes) id ≡ true
 
 -- ---- the rule on sound tables that keep what the history noted
 
+abbrev pub RuleOn : Sizes → Tables → ℕ → Option (List Binding) → Type 0
+RuleOn S T id a = let o = step S T (Command.leaveIfChanged id) in Rule (phase T id) a (committed (T .links) id) (target T id) (checkIteration T id) (o .reply) (phase (o .tables) id)
+
 -- a phase as the observer gives it
 observed :
     (T : Tables) (id : ℕ) (f : Phase → Bool) (g : Option Phase → Bool)
@@ -98,10 +101,10 @@ module _ (S : Sizes) (T : Tables) (h : sound S T ≡ true) (id : ℕ) (a : Optio
   loaded : isLoading (phaseAt T id) ≡ true → isRunning (phaseAt T id) ≡ true
   loaded l = loading-running (phaseAt T id) l
 
-  pub rule : RuleAt S T id a
+  pub rule : RuleOn S T id a
   rule = go (target T id) refl
     where
-      go : (o : Option (List Binding)) → target T id ≡ o → RuleAt S T id a
+      go : (o : Option (List Binding)) → target T id ≡ o → RuleOn S T id a
       go none e = record {
         committed-is = λ r. q .as-begun ((running r) .1);
         check-accepts = λ m. let (t, l) = isloading m in (λ x. refusal-not-done Error.Changed (sym (check-changed S T id t e l) ∙ x), λ x. never _ (sym e ∙ x ∙ q .as-begun (loaded l)));
@@ -118,7 +121,3 @@ module _ (S : Sizes) (T : Tables) (h : sound S T ≡ true) (id : ℕ) (a : Optio
             (λ x y. refusal-not-done {C = ⊥} Error.Changed (sym (ap (λ (z : Step). z .reply) (leave-unchanged S T id t bs e r)) ∙ x .0), λ x. absurd (x (same bs e r)));
         leave-refuses = λ m x. let (t, r) = running m in ap (λ (z : Step). z .reply) (leave-unchanged S T id t bs e r);
       }
-
--- demand 3
-pub iteration-rule : IterationRule
-iteration-rule S cs id = rule S (run S cs) (run-sound S cs) id (last S cs id) (from-kept S empty id none cs (empty-sound S) (empty-kept id))

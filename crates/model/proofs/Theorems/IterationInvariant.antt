@@ -1,7 +1,7 @@
 -- What demand 3 adds to soundness, and that every command keeps it.
 use Rattle.model.proofs.Logic.{Bool, List, List·Memᴰ·eq-of-singleton, Option, [], _&&_, _++_, _<_, _∙_, _∷_, _≡_, _⊎_, and-false, ap, append-nil, arith, cond, eq-eqb, eqb, false, inl, inr, length, map, ne-eqb, none, not, refl, some, subst, sym, true, ℕ, ℕ-discrete}
-use Rattle.model.specs.{Commands.Command, Commands.report, Commands.result, Commands.runFrom, Commands.step, Commands.tests, Compaction.declarationsCompacted, Insertion.inserted, Interface.dependenciesConfigured, Interface.listed, Interface.own, Interface.provisionDeclared, Interface.provisionReleased, Iteration.begins, Iteration.lastFrom, Iteration.noted, Lifecycle.beginTests, Lifecycle.begun, Lifecycle.begunNode, Lifecycle.begunWith, Lifecycle.cleanupFinished, Lifecycle.phaseAt, Records.declaredPort, Records.dependency, Records.isInactive, Records.isRunning, Records.liveLink, Records.newNode, Records.ownerIn, Records.portOf, Records.provision, Records.restoredNode, Records.samePort, Refusals.accepted, Resolution.committed, Resolution.dependencyPorts, Resolution.isDependencyOf, Resolution.target, Sizes.Sizes, Soundness.isDeclaration, Soundness.sound, Tables.Tables, Tables.empty, Tables.nodeAt, Tables.notInactive, Tables.present, Tables.withDeclarations, Tables.withNode, declared.Binding.Binding, declared.Parent.Parent, declared.Port.Port, declared.PortList.PortList, declared.records.Declaration.Declaration, declared.records.Node.Node}
-use Rattle.model.proofs.{Laws.Booleans.and-l, Laws.Booleans.cases, Laws.Booleans.clash, Laws.Booleans.not-f, Laws.Booleans.not-t, Laws.Committed.committed-append, Laws.Committed.committed-compact, Laws.Committed.committed-dead, Laws.Committed.committed-idle, Laws.Committed.dependencyPorts-keep, Laws.Committed.dependencyPorts-more, Laws.Committed.fresh-mine, Laws.Committed.fresh-other, Laws.Committed.new-owner, Laws.Facts.Safe, Laws.Facts.Sound, Laws.Facts.facts, Laws.Lists.in-map, Laws.Lists.is-some, Laws.Nodes.at-set, Laws.Nodes.at-set-other, Laws.Nodes.at-snoc, Laws.Nodes.present-lt, Laws.Phases.loading-running, Laws.Phases.running-installed, Laws.Refusals.Passed, Laws.Refusals.step-cases, Laws.Resolution.Targeted, Laws.Resolution.bound-ports, Laws.Resolution.targeted, Theorems.Commands.step-sound}
+use Rattle.model.specs.{Commands.Command, Commands.report, Commands.result, Commands.step, Commands.tests, Compaction.declarationsCompacted, Insertion.inserted, Interface.dependenciesConfigured, Interface.listed, Interface.own, Interface.provisionDeclared, Interface.provisionReleased, Iteration.begins, Lifecycle.beginTests, Lifecycle.begun, Lifecycle.begunNode, Lifecycle.begunWith, Lifecycle.cleanupFinished, Lifecycle.phaseAt, Records.declaredPort, Records.dependency, Records.isInactive, Records.isRunning, Records.liveLink, Records.newNode, Records.ownerIn, Records.portOf, Records.provision, Records.restoredNode, Records.samePort, Refusals.accepted, Resolution.committed, Resolution.dependencyPorts, Resolution.isDependencyOf, Resolution.target, Sizes.Sizes, Soundness.isDeclaration, Soundness.sound, Tables.Tables, Tables.empty, Tables.nodeAt, Tables.notInactive, Tables.present, Tables.withDeclarations, Tables.withNode, declared.Binding.Binding, declared.Parent.Parent, declared.Port.Port, declared.PortList.PortList, declared.records.Declaration.Declaration, declared.records.Node.Node}
+use Rattle.model.proofs.{Laws.Booleans.and-l, Laws.Booleans.cases, Laws.Booleans.clash, Laws.Booleans.not-f, Laws.Booleans.not-t, Laws.Committed.committed-append, Laws.Committed.committed-compact, Laws.Committed.committed-dead, Laws.Committed.committed-idle, Laws.Committed.dependencyPorts-keep, Laws.Committed.dependencyPorts-more, Laws.Committed.fresh-mine, Laws.Committed.fresh-other, Laws.Committed.new-owner, Laws.Facts.Safe, Laws.Facts.Sound, Laws.Facts.facts, Laws.Lists.in-map, Laws.Lists.is-some, Laws.Nodes.at-set, Laws.Nodes.at-set-other, Laws.Nodes.at-snoc, Laws.Nodes.present-lt, Laws.Phases.loading-running, Laws.Phases.running-installed, Laws.Refusals.Passed, Laws.Refusals.step-cases, Laws.Resolution.Targeted, Laws.Resolution.bound-ports, Laws.Resolution.targeted, Theorems.Commands.runFrom, Theorems.Commands.step-sound}
 
 -- of a running component, what was noted at its last accepted begin is its committed; of an installed one, the ports of its live links are its dependency ports, both in order
 pub record IterationInvariant (T : Tables) (id : ℕ) (a : Option (List Binding)) : Type 0 where
@@ -132,6 +132,16 @@ result-kept S T k id a q (Command.remove j) p = node-kept S T k id a q j _ (not-
 result-kept S T k id a q Command.compactBindings p = kept-by T _ id a q (λ r. (r, λ x. x, committed-compact (T .links) id, refl))
 result-kept S T k id a q Command.compactDeclarations p = declarationsCompacted-kept S T k id a q
 
+-- ---- the history on tables
+
+-- after one more command on T: what target gives on T at an accepted begin of the component, else what was noted before
+unfoldable pub noted : Sizes → Tables → ℕ → Command → Option (List Binding) → Option (List Binding)
+noted S T id c a = cond (begins id c && accepted ((step S T c) .reply)) (target T id) a
+
+unfoldable pub notedFrom : Sizes → Tables → ℕ → List Command → Option (List Binding) → Option (List Binding)
+notedFrom S T id [] a = a
+notedFrom S T id (c ∷ cs) a = notedFrom S ((step S T c) .tables) id cs (noted S T id c a)
+
 -- a refused command notes nothing, an accepted begin of this component its target
 pub step-kept : (S : Sizes) (T : Tables) (k : Sound S T) (id : ℕ) (a : Option (List Binding)) (c : Command) → IterationInvariant T id a → IterationInvariant ((step S T c) .tables) id (noted S T id c a)
 unfolding noted
@@ -140,8 +150,8 @@ step-kept S T k id a c q =
     (λ e h. rw (and-false (begins id c)) q) (λ p. result-kept S T k id a q c p)
 
 -- from any tables that have it, so that a run may start elsewhere than at the empty kernel
-pub from-kept : (S : Sizes) (T : Tables) (id : ℕ) (a : Option (List Binding)) (cs : List Command) → sound S T ≡ true → IterationInvariant T id a → IterationInvariant (runFrom S T cs) id (lastFrom S T id cs a)
-unfolding runFrom lastFrom
+pub from-kept : (S : Sizes) (T : Tables) (id : ℕ) (a : Option (List Binding)) (cs : List Command) → sound S T ≡ true → IterationInvariant T id a → IterationInvariant (runFrom S T cs) id (notedFrom S T id cs a)
+unfolding runFrom notedFrom
 from-kept S T id a [] h q = q
 from-kept S T id a (c ∷ cs) h q = from-kept S ((step S T c) .tables) id (noted S T id c a) cs (step-sound S T c h) (step-kept S T (facts S T h) id a c q)
 

@@ -1,7 +1,7 @@
--- Reached kernels are sound, so that no command on one answers 10, and the iteration rule holds of them.
-use Rattle.model.proofs.Logic.{Bool, List, Option, [], _&&_, _∙_, _∷_, _≡_, ap, cond, eqb, false, none, not, refl, some, true, ℕ}
-use Rattle.model.specs.{Commands.Command, Commands.report, Commands.result, Commands.run, Commands.runFrom, Commands.settle, Commands.step, Commands.tests, Iteration.RuleAt, Iteration.begins, Iteration.last, Iteration.lastFrom, Iteration.noted, Kernels.Commanded, Kernels.KernelIterationRule, Kernels.KernelRuleAt, Kernels.asked, Kernels.commanded, Kernels.committedOf, Kernels.iterationOf, Kernels.kernelFrom, Kernels.kernelLastFrom, Kernels.phaseOf, Kernels.reached, Kernels.targetOf, Layouts.Layout, Layouts.Sized, Layouts.layOut, Layouts.soundKernel, Layouts.tablesOf, Lifecycle.checkIteration, Lists.all, Observers.phase, Refusals.Reply, Refusals.accepted, Refusals.first, Refusals.number, Resolution.committed, Resolution.target, Sizes.Sizes, Soundness.sound, Tables.Tables, Tables.empty, declared.Binding.Binding, declared.Error.Error}
-use Rattle.model.proofs.{Laws.Booleans.clash, Laws.Refusals.Passed, Laws.Refusals.first-among, Laws.Refusals.of-passed, Laws.Refusals.report-accepts, Laws.Refusals.step-cases, Theorems.Commands.empty-sound, Theorems.Commands.run-sound, Theorems.Commands.step-sound, Theorems.Iteration.iteration-rule, Theorems.Layouts.laid-out, Theorems.Layouts.layout-sound, Theorems.Layouts.read-back}
+-- What a command hands back, refused or accepted; reached kernels are sound, so that no command on one answers 10; and the iteration rule holds of them.
+use Rattle.model.proofs.Logic.{Bool, List, Option, [], _&&_, _∙_, _∷_, _≡_, _≤_, _⊎_, ap, arith, cond, eqb, false, inl, inr, none, not, refl, some, subst, sym, true, ℕ}
+use Rattle.model.specs.{Commands.Command, Commands.report, Commands.result, Commands.settle, Commands.step, Commands.tests, Iteration.IterationRule, Iteration.RuleAt, Iteration.begins, Iteration.committedOf, Iteration.iterationOf, Iteration.lastFrom, Iteration.phaseOf, Iteration.targetOf, Kernels.Commanded, Kernels.EveryCallAnswered, Kernels.asked, Kernels.commanded, Kernels.kernelFrom, Kernels.reached, Kernels.replied, Layouts.Layout, Layouts.layOut, Layouts.soundKernel, Layouts.tablesOf, Lifecycle.checkIteration, Lists.all, Observers.phase, Refusals.Reply, Refusals.accepted, Refusals.first, Refusals.number, Refusals.replyNumber, Resolution.committed, Resolution.target, Sizes.Sizes, Soundness.sound, Tables.Tables, Tables.empty, declared.Binding.Binding, declared.Error.Error}
+use Rattle.model.proofs.{Laws.Booleans.clash, Laws.Refusals.Passed, Laws.Refusals.first-among, Laws.Refusals.of-passed, Laws.Refusals.report-accepts, Laws.Refusals.step-cases, Theorems.Commands.empty-sound, Theorems.Commands.run, Theorems.Commands.run-sound, Theorems.Commands.runFrom, Theorems.Commands.step-sound, Theorems.Iteration.RuleOn, Theorems.Iteration.rule, Theorems.IterationInvariant.empty-kept, Theorems.IterationInvariant.from-kept, Theorems.IterationInvariant.noted, Theorems.IterationInvariant.notedFrom, Theorems.Layouts.layout-sound, Theorems.Layouts.read-back}
 
 -- what a sound kernel answers, and an unsound one
 pub asked-sound : {A : Type 0} (S : Sizes) (k : Layout) (u : A) (f : Tables → A) → soundKernel S k ≡ true → asked S k u f ≡ f (tablesOf k)
@@ -13,26 +13,48 @@ unfolding asked
 asked-unsound S k u f h = rw h
 
 pub commanded-unsound : (S : Sizes) (k : Layout) (c : Command) → soundKernel S k ≡ false → commanded S k c ≡ record { kernel = k; reply = Reply.refused Error.Damaged }
-unfolding commanded
+unfolding commanded asked
 commanded-unsound S k c h = rw h
 
 -- a refusal hands the kernel back unchanged
 pub commanded-refused :
     (S : Sizes) (k : Layout) (c : Command) (e : Error)
-    → Sized S k
     → soundKernel S k ≡ true
     → first (tests S (tablesOf k) c) ≡ some e
     → commanded S k c ≡ record { kernel = k; reply = Reply.refused e }
-unfolding commanded step settle
-commanded-refused S k c e a h f = rw (h, f, laid-out S k a h)
+unfolding commanded asked step settle
+commanded-refused S k c e h f = rw (h, f)
 
 pub commanded-accepted :
     (S : Sizes) (k : Layout) (c : Command)
     → soundKernel S k ≡ true
     → Passed (tests S (tablesOf k) c)
     → commanded S k c ≡ record { kernel = layOut S (result (tablesOf k) c); reply = report (tablesOf k) c }
-unfolding commanded step settle
-commanded-accepted S k c h p = rw (h, of-passed (tests S (tablesOf k) c) p)
+unfolding commanded asked step settle
+commanded-accepted S k c h p = rw (h, of-passed (tests S (tablesOf k) c) p, report-accepts (tablesOf k) c)
+
+-- demand 1
+numbered : (e : Error) → (1 ≤ number e) × (number e ≤ 10)
+numbered Error.Unknown = (omega arith, omega arith)
+numbered Error.InvalidState = (omega arith, omega arith)
+numbered Error.Retired = (omega arith, omega arith)
+numbered Error.MissingDependency = (omega arith, omega arith)
+numbered Error.Conflict = (omega arith, omega arith)
+numbered Error.Changed = (omega arith, omega arith)
+numbered Error.Relied = (omega arith, omega arith)
+numbered Error.Children = (omega arith, omega arith)
+numbered Error.Capacity = (omega arith, omega arith)
+numbered Error.Damaged = (omega arith, omega arith)
+
+pub every-call-answered : EveryCallAnswered
+unfolding commanded
+every-call-answered S k c = go (replied S k c)
+  where
+    go : (r : Reply) → (replyNumber r ≡ 0) ⊎ ((1 ≤ replyNumber r) × (replyNumber r ≤ 10) × (cond (accepted r) (layOut S ((step S (tablesOf k) c) .tables)) k ≡ k))
+    go Reply.done = inl refl
+    go (Reply.issued id) = inl refl
+    go (Reply.removed n) = inl refl
+    go (Reply.refused e) = let (l, m) = numbered e in inr (l, m, refl)
 
 module _ (S : Sizes) (T : Tables) (h : sound S T ≡ true) where
   -- on a laid out kernel: what is asked, and what is commanded
@@ -41,8 +63,9 @@ module _ (S : Sizes) (T : Tables) (h : sound S T ≡ true) where
   asked-of u f = rw (layout-sound S T h, read-back S T)
 
   pub commanded-of : (c : Command) → commanded S (layOut S T) c ≡ record { kernel = layOut S ((step S T c) .tables); reply = (step S T c) .reply }
-  unfolding commanded
-  commanded-of c = rw (layout-sound S T h, read-back S T)
+  commanded-of c = step-cases (λ o. step S T c ≡ o → commanded S (layOut S T) c ≡ record { kernel = layOut S (o .tables); reply = o .reply }) S T c
+      (λ e f q. commanded-refused S (layOut S T) c e (layout-sound S T h) (ap (λ (U : Tables). first (tests S U c)) (read-back S T) ∙ f))
+      (λ p q. rw (read-back S T) at (commanded-accepted S (layOut S T) c (layout-sound S T h) (subst (λ (U : Tables). Passed (tests S U c)) (sym (read-back S T)) p))) refl
 
 pub kernel-run : (S : Sizes) (T : Tables) (cs : List Command) → sound S T ≡ true → kernelFrom S (layOut S T) cs ≡ layOut S (runFrom S T cs)
 unfolding kernelFrom runFrom
@@ -87,16 +110,16 @@ step-undamaged S T c = step-cases (λ o. o .reply ≡ Reply.refused Error.Damage
 pub reached-undamaged : (S : Sizes) (cs : List Command) (c : Command) → (commanded S (reached S cs) c) .reply ≡ Reply.refused Error.Damaged → ⊥
 reached-undamaged S cs c q = step-undamaged S (run S cs) c (rw (reached-is S cs, commanded-of S (run S cs) (run-sound S cs) c) at q)
 
-kernel-last : (S : Sizes) (T : Tables) (id : ℕ) (cs : List Command) (a : Option (List Binding)) → sound S T ≡ true → kernelLastFrom S (layOut S T) id cs a ≡ lastFrom S T id cs a
-unfolding kernelLastFrom lastFrom noted
+kernel-last : (S : Sizes) (T : Tables) (id : ℕ) (cs : List Command) (a : Option (List Binding)) → sound S T ≡ true → lastFrom S (layOut S T) id cs a ≡ notedFrom S T id cs a
+unfolding lastFrom notedFrom noted
 kernel-last S T id [] a h = refl
 kernel-last S T id (c ∷ cs) a h =
-    ap (λ (o : Commanded). kernelLastFrom S (o .kernel) id cs (cond (begins id c && accepted (o .reply)) (targetOf S (layOut S T) id) a)) (commanded-of S T h c)
-    ∙ ap (λ (t : Option (List Binding)). kernelLastFrom S (layOut S ((step S T c) .tables)) id cs (cond (begins id c && accepted ((step S T c) .reply)) t a)) (asked-of S T h none (λ U. target U id))
+    ap (λ (o : Commanded). lastFrom S (o .kernel) id cs (cond (begins id c && accepted (o .reply)) (targetOf S (layOut S T) id) a)) (commanded-of S T h c)
+    ∙ ap (λ (t : Option (List Binding)). lastFrom S (layOut S ((step S T c) .tables)) id cs (cond (begins id c && accepted ((step S T c) .reply)) t a)) (asked-of S T h none (λ U. target U id))
     ∙ kernel-last S ((step S T c) .tables) id cs (cond (begins id c && accepted ((step S T c) .reply)) (target T id) a) (step-sound S T c h)
 
 -- the rule of sound tables is that of their kernel
-kernel-rule : (S : Sizes) (T : Tables) (id : ℕ) (a : Option (List Binding)) → sound S T ≡ true → RuleAt S T id a → KernelRuleAt S (layOut S T) id a
+kernel-rule : (S : Sizes) (T : Tables) (id : ℕ) (a : Option (List Binding)) → sound S T ≡ true → RuleOn S T id a → RuleAt S (layOut S T) id a
 kernel-rule S T id a h r =
     let U : Tables = (step S T (Command.leaveIfChanged id)) .tables in
     let now : phaseOf S (layOut S T) id ≡ phase T id = asked-of S T h none (λ T. phase T id) in
@@ -106,5 +129,9 @@ kernel-rule S T id a h r =
     let after : phaseOf S (layOut S U) id ≡ phase U id = asked-of S U (step-sound S T (Command.leaveIfChanged id) h) none (λ T. phase T id) in
     rw (now, held, wanted, check, commanded-of S T h (Command.leaveIfChanged id), after) r
 
-pub kernel-iteration-rule : KernelIterationRule
-kernel-iteration-rule S cs id = rw (reached-is S cs, kernel-last S empty id cs none (empty-sound S)) (kernel-rule S (run S cs) id (last S cs id) (run-sound S cs) (iteration-rule S cs id))
+-- demand 3
+pub iteration-rule : IterationRule
+iteration-rule S cs id =
+    let a : Option (List Binding) = notedFrom S empty id cs none in
+    let q : RuleOn S (run S cs) id a = rule S (run S cs) (run-sound S cs) id a (from-kept S empty id none cs (empty-sound S) (empty-kept id)) in
+    rw (reached-is S cs, kernel-last S empty id cs none (empty-sound S)) (kernel-rule S (run S cs) id a (run-sound S cs) q)

@@ -1,7 +1,7 @@
 -- A sound kernel is its tables laid out, and tables come back from their layout.
 use Rattle.model.proofs.Logic.{List, _∙_, _≡_, _≤_, ap, arith, drop, getD, le-leb, leb-true, length, length-take-le, refl, sym, take, true, ℕ}
 use Rattle.model.specs.{Layouts.Layout, Layouts.Sized, Layouts.layOut, Layouts.layoutTests, Layouts.soundKernel, Layouts.tablesOf, Lists.all, Lists.conj, Lists.padded, Records.blankDeclaration, Records.blankLink, Records.blankNode, Records.isBlankDeclaration, Records.isBlankLink, Records.isBlankNode, Sizes.Sizes, Soundness.fits, Soundness.sound, Soundness.wf, Tables.Tables, Tables.nodeAt, declared.records.Node.Node}
-use Rattle.model.proofs.{Laws.Arrays.getD-padded, Laws.Arrays.length-padded, Laws.Arrays.rest-blank, Laws.Arrays.take-padded, Laws.Arrays.whole-array, Laws.Blanks.blank-declaration, Laws.Blanks.blank-link, Laws.Blanks.blank-node, Laws.Booleans.Each, Laws.Booleans.and-i, Laws.Booleans.and-l, Laws.Booleans.and-r, Laws.Booleans.each, Laws.Booleans.of-each, Laws.Facts.Fits, Laws.Facts.fits-of, Laws.Facts.of-fits}
+use Rattle.model.proofs.{Laws.Arrays.getD-padded, Laws.Arrays.rest-blank, Laws.Arrays.take-most, Laws.Arrays.take-padded, Laws.Arrays.whole-array, Laws.Blanks.blank-declaration, Laws.Blanks.blank-link, Laws.Blanks.blank-node, Laws.Booleans.Each, Laws.Booleans.and-i, Laws.Booleans.and-l, Laws.Booleans.and-r, Laws.Booleans.each, Laws.Booleans.of-each, Laws.Facts.Fits, Laws.Facts.fits-of, Laws.Facts.of-fits}
 
 -- what the tests of a layout say
 pub record Laid (S : Sizes) (k : Layout) : Type 0 where
@@ -33,6 +33,18 @@ of-laid S k l =
     let e : Each (layoutTests S k) = (le-leb _ _ (l .nodes), (le-leb _ _ (l .declarations), (le-leb _ _ (l .links), (l .blank-nodes, (l .blank-declarations, (l .blank-links, tt)))))) in
     and-i (conj (layoutTests S k)) _ (of-each (layoutTests S k) e) (l .points)
 
+-- a sound kernel's tables are sound
+pub tables-sound : (S : Sizes) (k : Layout) → soundKernel S k ≡ true → sound S (tablesOf k) ≡ true
+unfolding sound tablesOf
+tables-sound S k h =
+    let l : Laid S k = laid-of S k h in
+    let within : Fits S (tablesOf k) = record {
+      nodes = omega (arith, l .nodes, take-most (k .nodeCount) (k .nodes));
+      declarations = omega (arith, l .declarations, take-most (k .declarationCount) (k .declarations));
+      links = omega (arith, l .links, take-most (k .linkCount) (k .links));
+    } in
+    and-i (fits S (tablesOf k)) _ (of-fits S (tablesOf k) within) (l .points)
+
 module _ (S : Sizes) (k : Layout) (a : Sized S k) (h : soundKernel S k ≡ true) where
   laid : Laid S k
   laid = laid-of S k h
@@ -52,13 +64,6 @@ module _ (S : Sizes) (k : Layout) (a : Sized S k) (h : soundKernel S k ≡ true)
   pub link-count : length ((tablesOf k) .links) ≡ k .linkCount
   unfolding tablesOf
   link-count = count-of _ _ (k .links) (a .links) (laid .links)
-
-  -- a sound kernel's tables are sound
-  pub tables-sound : sound S (tablesOf k) ≡ true
-  unfolding sound
-  tables-sound =
-      let within : Fits S (tablesOf k) = record { nodes = rw node-count (laid .nodes); declarations = rw declaration-count (laid .declarations); links = rw link-count (laid .links) } in
-      and-i (fits S (tablesOf k)) _ (of-fits S (tablesOf k) within) (laid .points)
 
   whole-nodes : padded (S .identities) blankNode (take (k .nodeCount) (k .nodes)) ≡ k .nodes
   whole-nodes = whole-array isBlankNode blankNode blank-node _ _ (k .nodes) (a .nodes) (laid .nodes) (laid .blank-nodes)
@@ -85,16 +90,7 @@ read-back S T = λ i. record {
   links = take-padded (S .links) blankLink (T .links) i;
 }
 
--- the layout of tables within the sizes fills its arrays
-pub layout-sized : (S : Sizes) (T : Tables) → Fits S T → Sized S (layOut S T)
-unfolding layOut
-layout-sized S T f = record {
-  nodes = length-padded _ blankNode (T .nodes) (f .nodes);
-  declarations = length-padded _ blankDeclaration (T .declarations) (f .declarations);
-  links = length-padded _ blankLink (T .links) (f .links);
-}
-
--- and is sound as they are
+-- and their layout is sound as they are
 pub layout-sound : (S : Sizes) (T : Tables) → sound S T ≡ true → soundKernel S (layOut S T) ≡ true
 unfolding layOut sound
 layout-sound S T h =

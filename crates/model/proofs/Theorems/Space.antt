@@ -1,7 +1,7 @@
 -- On a reached kernel a begin refused for link space is accepted after compact_bindings.
 use Rattle.model.proofs.Logic.{Bool, List, List·Memᴰ, List·Memᴰ·head, List·Memᴰ·tail, Option, [], _&&_, _++_, _+_, _<_, _∙_, _∷_, _≡_, _≤_, _⊎_, ap, arith, cond, eq-eqb, eqb, false, inl, inr, le-ltb, length, length-map, map, ne-eqb, none, not, refl, some, subst, suc, sym, true, ℕ, ℕ-discrete}
-use Rattle.model.specs.{Commands.Command, Commands.Step, Commands.report, Commands.result, Commands.run, Commands.settle, Commands.step, Commands.tests, Compaction.bindingsCompacted, Lifecycle.beginNodeTests, Lifecycle.beginTests, Lifecycle.begun, Lifecycle.bindings, Lists.isNone, Lists.keep, Records.bindingIn, Records.consumerIn, Records.declaredPort, Records.isLive, Records.ownerIn, Records.portOf, Refusals.Reply, Refusals.Tests, Refusals.first, Refusals.number, Resolution.committed, Resolution.dependencyPorts, Resolution.isDependencyOf, Resolution.isLiveLinkOf, Resolution.target, Sizes.Sizes, Sizes.lastGeneration, Space.RefusedForSpace, Space.SpaceAfterCompaction, Tables.Tables, Tables.empty, Tables.nodeAt, Tables.notInactive, Tables.present, declared.Binding.Binding, declared.Error.Error, declared.records.Declaration.Declaration, declared.records.Link.Link}
-use Rattle.model.proofs.{Laws.Booleans.cases, Laws.Booleans.not-f, Laws.Committed.committed-idle, Laws.Facts.Safe, Laws.Facts.Sound, Laws.Facts.facts, Laws.Lists.is-some, Laws.Nodes.present-lt, Laws.Refusals.Passed, Laws.Refusals.of-passed, Laws.Refusals.skip, Laws.Resolution.bound-ports, Laws.Resolution.targeted, Laws.Sums.plus, Laws.Sums.sum-at, Laws.Sums.sum-le, Laws.Sums.sum-mono, Laws.Sums.sum-same, Laws.Sums.sum-zero, Laws.Sums.sumTo, Theorems.Commands.empty-sound, Theorems.Commands.run-sound, Theorems.IterationInvariant.empty-kept, Theorems.IterationInvariant.from-kept}
+use Rattle.model.specs.{Commands.Command, Commands.Step, Commands.report, Commands.result, Commands.settle, Commands.step, Commands.tests, Compaction.bindingsCompacted, Kernels.Commanded, Kernels.reached, Layouts.layOut, Lifecycle.beginNodeTests, Lifecycle.beginTests, Lifecycle.begun, Lifecycle.bindings, Lists.isNone, Lists.keep, Observers.episodeGeneration, Records.bindingIn, Records.consumerIn, Records.declaredPort, Records.isLive, Records.ownerIn, Records.portOf, Refusals.Reply, Refusals.Tests, Refusals.first, Refusals.number, Resolution.committed, Resolution.dependencyPorts, Resolution.isDependencyOf, Resolution.isLiveLinkOf, Resolution.target, Sizes.Sizes, Sizes.lastGeneration, Soundness.sound, Space.SpaceAfterCompaction, Tables.Tables, Tables.empty, Tables.nodeAt, Tables.notInactive, Tables.present, declared.Binding.Binding, declared.Error.Error, declared.records.Declaration.Declaration, declared.records.Link.Link}
+use Rattle.model.proofs.{Laws.Booleans.cases, Laws.Booleans.not-f, Laws.Committed.committed-idle, Laws.Facts.Safe, Laws.Facts.Sound, Laws.Facts.facts, Laws.Lists.is-some, Laws.Nodes.present-lt, Laws.Refusals.Passed, Laws.Refusals.of-passed, Laws.Refusals.skip, Laws.Resolution.bound-ports, Laws.Resolution.targeted, Laws.Sums.plus, Laws.Sums.sum-at, Laws.Sums.sum-le, Laws.Sums.sum-mono, Laws.Sums.sum-same, Laws.Sums.sum-zero, Laws.Sums.sumTo, Theorems.Commands.empty-sound, Theorems.Commands.run, Theorems.Commands.run-sound, Theorems.Commands.step-sound, Theorems.IterationInvariant.empty-kept, Theorems.IterationInvariant.from-kept, Theorems.Kernels.asked-of, Theorems.Kernels.commanded-of, Theorems.Kernels.reached-is}
 
 -- ---- the live links, and the dependencies, by component
 
@@ -100,11 +100,15 @@ begin-refusal S T id e h = go (first (beginTests S T id)) h
     go none x = let z : _≡_ {A = ℕ} 0 1 = cc in absurd (omega arith)
     go (some y) x = cc
 
+-- begin gives 9, and not for its generation
+abbrev NoSpace : Sizes → Tables → ℕ → Type 0
+NoSpace S T id = ((step S T (Command.begin id)) .reply ≡ Reply.refused Error.Capacity) × ((nodeAt (T .nodes) id) .generation ≡ lastGeneration → ⊥)
+
 -- every test of begin's row but the last
 abbrev BeforeSpace : Tables → ℕ → Type 0
 BeforeSpace T id = Passed (beginNodeTests (nodeAt (T .nodes) id) ++ ((isNone (target T id), Error.MissingDependency) ∷ []))
 
-before-space : (S : Sizes) (T : Tables) (id : ℕ) → RefusedForSpace S T id → BeforeSpace T id
+before-space : (S : Sizes) (T : Tables) (id : ℕ) → NoSpace S T id → BeforeSpace T id
 before-space S T id r =
     let f0 : first (beginTests S T id) ≡ some Error.Capacity = begin-refusal S T id Error.Capacity (r .0) in
     let (p1, f1) = next _ _ _ _ (λ e. omega arith) f0 in
@@ -128,13 +132,24 @@ accepted : (S : Sizes) (T : Tables) (c : Command) → Passed (tests S T c) → s
 unfolding step settle
 accepted S T c p = rw (of-passed (tests S T c) p)
 
-pub space-after-compaction : SpaceAfterCompaction
-space-after-compaction S w cs id r =
+on-tables : (S : Sizes) → S .declarations ≤ S .links → (cs : List Command) (id : ℕ) → NoSpace S (run S cs) id → (step S ((step S (run S cs) Command.compactBindings) .tables) (Command.begin id)) .reply ≡ Reply.done
+on-tables S w cs id r =
     let T : Tables = run S cs in
     let c : (step S T Command.compactBindings) .tables ≡ bindingsCompacted T = ap (λ (o : Step). o .tables) (accepted S T Command.compactBindings tt) in
     let p : Passed (beginTests S (bindingsCompacted T) id) = room-begin S T id w (facts S T (run-sound S cs)) (λ j. from-kept S empty j none cs (empty-sound S) (empty-kept j) .ports) (before-space S T id r) in
     rw c (ap (λ (o : Step). o .reply) (accepted S (bindingsCompacted T) (Command.begin id) p))
 
 -- a begin that gives 9 names a present component
-pub capacity-known : (S : Sizes) (T : Tables) (id : ℕ) → (step S T (Command.begin id)) .reply ≡ Reply.refused Error.Capacity → present (T .nodes) id ≡ true
+capacity-known : (S : Sizes) (T : Tables) (id : ℕ) → (step S T (Command.begin id)) .reply ≡ Reply.refused Error.Capacity → present (T .nodes) id ≡ true
 capacity-known S T id h = not-f _ ((next _ _ _ _ (λ e. omega arith) (begin-refusal S T id Error.Capacity h)) .0)
+
+pub space-after-compaction : SpaceAfterCompaction
+space-after-compaction S w cs id (r, g) =
+    let T : Tables = run S cs in
+    let h : sound S T ≡ true = run-sound S cs in
+    let k : reached S cs ≡ layOut S T = reached-is S cs in
+    let a : (step S T (Command.begin id)) .reply ≡ Reply.refused Error.Capacity = sym (ap (λ (o : Commanded). o .reply) (commanded-of S T h (Command.begin id))) ∙ (rw k at r) in
+    let b : (nodeAt (T .nodes) id) .generation ≡ lastGeneration → ⊥ = λ e. g (rw k (asked-of S T h none (λ U. episodeGeneration U id) ∙ rw (capacity-known S T id a, e))) in
+    let U : Tables = (step S T Command.compactBindings) .tables in
+    let v : sound S U ≡ true = step-sound S T Command.compactBindings h in
+    rw (k, commanded-of S T h Command.compactBindings, commanded-of S U v (Command.begin id)) (on-tables S w cs id (a, b))

@@ -1,6 +1,6 @@
 -- `kernel::Kernel::begin` meets its contract. In the loop the array holds the links below the count and a live link for each of the first i bindings, then blanks.
 use Rattle.model.proofs.Logic.{List, [], _++_, _+_, _-_, _∙_, _≡_, _≤_, add-one, ap, append-nil, arith, eqb-false, getD, length, length-take-le, map, needs, some, sym, take, ℕ}
-use Rattle.kernel.specs.{Fields.layoutOf, Outcomes.command, Outcomes.outcome, declared.Kernel.Kernel}
+use Rattle.kernel.specs.{Fields.layoutOf, Outcomes.Returns, declared.Kernel.Kernel}
 use Rattle.model.specs.{Commands.Command, Commands.tests, Layouts.tablesOf, Lists.padded, Records.blankBinding, Records.blankLink, Records.blankNode, Records.liveLink, Refusals.first, declared.Answer.Answer, declared.Binding.Binding, declared.Error.Error, declared.rows.Row.Row, declared.records.Link.Link, declared.records.Node.Node}
 use Rattle.scans.specs.{declared.TargetBindings.TargetBindings}
 use Rattle.kernel.proofs.{Kernel.begin.Statement.statement, Laws.Outcomes.hands-accepted, Laws.Outcomes.hands-damaged, Laws.Outcomes.hands-refused, Laws.Lengths.sized, Laws.Targets.held}
@@ -34,7 +34,7 @@ module _ (e : tie.Else1 Inv-loop μ-loop) where
   K : SoundKernel sizes (layoutOf k)
   K = tested-sound (sized k (e .before .before .good .0, tt)) (e .before .sound .ensures) (e .if1 .left)
 
-  refuses : {x : Error} → first (tests sizes (tablesOf (layoutOf k)) (Command.begin id)) ≡ some x → record { kernel = k; answer = Answer.Refused x } ≡ outcome (command k (Command.begin id))
+  refuses : {x : Error} → first (tests sizes (tablesOf (layoutOf k)) (Command.begin id)) ≡ some x → Returns k (Command.begin id) (record { kernel = k; answer = Answer.Refused x })
   refuses = hands-refused K (Command.begin id)
 
 -- the node's tests answered

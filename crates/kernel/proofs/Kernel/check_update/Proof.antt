@@ -1,9 +1,9 @@
 -- `kernel::Kernel::check_update` meets its contract.
-use Rattle.model.proofs.Logic.{Option, _++_, _∙_, _≡_, ap, arith, needs, refl, sym}
-use Rattle.model.specs.{Answers.answer, Answers.checked, Layouts.tablesOf, Refusals.Reply, Refusals.Tests, Refusals.first, Refusals.orElse, Rows.changedNode, Rows.nodeTests, Tables.Tables, Tables.nodeAt, UpdateNode.updateTests, declared.Error.Error, declared.records.Node.Node}
+use Rattle.model.proofs.Logic.{Option, _++_, _∙_, _≡_, ap, needs, not-true, refl, sym}
+use Rattle.model.specs.{Answers.answer, Answers.checked, Layouts.tablesOf, Records.blankNode, Refusals.Reply, Refusals.Tests, Refusals.first, Refusals.orElse, Rows.changedNode, Rows.nodeTests, Tables.Tables, Tables.nodeAt, UpdateNode.updateTests, declared.Error.Error, declared.records.Node.Node}
 use Rattle.kernel.proofs.{Kernel.check_update.Statement.statement, Laws.Lengths.sized}
-use Rattle.kernel.specs.{Fields.layoutOf}
-use Rattle.layouts.proofs.{Laws.Nodes.Tested, Laws.Nodes.below, Laws.Nodes.rest, Laws.Nodes.tested, Laws.Rows.refused-row, Laws.Rows.row-is, Laws.Sound.node-is}
+use Rattle.kernel.specs.{Fields.ask, Fields.layoutOf, Outcomes.answerOf, declared.component.Entry.Entry}
+use Rattle.layouts.proofs.{Laws.Nodes.Tested, Laws.Nodes.node-row, Laws.Nodes.rest, Laws.Nodes.tested, Laws.Rows.refused-row, Laws.Rows.row-damaged, Laws.Rows.row-is, Laws.Sound.SoundKernel, Laws.Sound.ask-sound, Laws.Sound.tested-sound}
 use Rattle.layouts.specs.{Rows.ofNode}
 use Rattle.sizes.specs.{Sizes.sizes}
 use Rattle.kernel.proofs.Kernel.check_update.Tie as tie
@@ -12,37 +12,52 @@ use Rattle.kernel.proofs.Kernel.check_update.Tie as tie
 abbrev row : tie.Start → Tables → Tests
 row s T = let n = nodeAt (T .nodes) (s .args .id) in nodeTests (s .args .row) n ++ updateTests T (s .args .id) (changedNode (s .args .transition) n)
 
--- past the tests of the node
-module _ (d : tie.After-enum-told) where
-  abbrev s : tie.Start
-  s = d .before .before .before
+-- the node's tests answered
+module _ (m : tie.After-check) where
+  abbrev e : tie.Else1
+  e = m .before .before
 
-  P : Tested sizes (layoutOf (s .args .self)) (s .args .row) (s .args .id)
-  P = tested (sized (s .args .self) (s .good .0, tt)) (s .args .row) (s .args .id) (d .before .before .check-node .ensures) (d .enum-told .given .1)
+  abbrev a : tie.After-entry
+  a = e .before .before
+
+  abbrev s : tie.Start
+  s = a .before
+
+  K : SoundKernel sizes (layoutOf (s .args .self))
+  K = tested-sound (sized (s .args .self) (s .good .0, tt)) (ap (λ (x : Entry). x .sound) (a .entry .ensures)) (e .if1 .left)
+
+  node : a .entry .result .node ≡ ask (s .args .self) blankNode (λ T. nodeAt (T .nodes) (s .args .id))
+  node = ap (λ (x : Entry). x .node) (a .entry .ensures)
+
+  answers : m .check .result ≡ answerOf (s .args .self) (ofNode (nodeTests (s .args .row)) (s .args .id))
+  answers = node-row K (nodeTests (s .args .row)) (s .args .id) node (m .check .ensures)
 
 returns : tie.Need-returns
-returns c =
-    let a = c .before .before .before in
-    let s = a .before in
-    refused-row (sized (s .args .self) (s .good .0, tt)) (ofNode (nodeTests (s .args .row)) (s .args .id)) _ (a .check-node .ensures) _ (c .before .checked .given .1) (row s) refl
+returns c = row-damaged sizes (layoutOf _) _ (sym (ap (λ (x : Entry). x .sound) (c .before .before .entry .ensures)) ∙ not-true _ (c .if1 .taken))
 
 returns-2 : tie.Need-returns-2
-unfolding tablesOf
 returns-2 c =
-    let m = c .before .before in
-    let d = m .before .before .before in
-    let T = tablesOf (layoutOf (s d .args .self)) in
-    let id = s d .args .id in
-    let new : changedNode (s d .args .transition) (nodeAt (T .nodes) id) ≡ m .changed .result = sym (m .changed .ensures ∙ ap (changedNode (s d .args .transition)) (sym (node-is (P d .kernel) id))) in
-    let left : first (row (s d) T) ≡ first (updateTests T id (m .changed .result)) = rest (P d) _ ∙ ap (λ (n : Node). first (updateTests T id n)) new in
-    c .update-node .ensures ∙ sym (ap (λ (o : Option Error). answer (orElse o Reply.done)) left) ∙ row-is (P d .kernel) (row (s d))
+    let m = c .before .before .before in
+    refused-row (K m .sized) (ofNode (nodeTests (s m .args .row)) (s m .args .id)) _ (answers m) _ (c .before .checked .given .1) (row (s m)) refl
+
+returns-3 : tie.Need-returns-3
+unfolding tablesOf
+returns-3 c =
+    let w = c .before .before .before in
+    let m = w .before .before .before in
+    let T = tablesOf (layoutOf (s m .args .self)) in
+    let id = s m .args .id in
+    let P : Tested sizes (layoutOf (s m .args .self)) (s m .args .row) id = tested (K m .sized) (s m .args .row) id (answers m) (w .before .enum-told .given .1) in
+    let is : nodeAt (T .nodes) id ≡ a m .entry .result .node = sym (node m ∙ ask-sound (K m) blankNode (λ U. nodeAt (U .nodes) id)) in
+    let new : changedNode (s m .args .transition) (nodeAt (T .nodes) id) ≡ w .changed .result = ap (changedNode (s m .args .transition)) is ∙ sym (w .changed .ensures) in
+    let left : first (row (s m) T) ≡ first (updateTests T id (w .changed .result)) = rest P _ ∙ ap (λ (n : Node). first (updateTests T id n)) new in
+    c .update-node .ensures ∙ sym (ap (λ (o : Option Error). answer (orElse o Reply.done)) left) ∙ row-is (K m) (row (s m))
 
 pub check-update-spec : {M : Type 1} → statement M
 check-update-spec = tie.close (tie.spec
-    (λ c κs. search needs) (λ c. search needs)  -- check-node-requires, enum-known-checked
+    (λ c κs. search needs)  -- entry-requires
     returns
-    (λ c. search needs)  -- enum-told
-    (λ c. omega (arith, below (P (c .before))))  -- mul-node
-    (λ c. below (P (c .before)))  -- array-copy-out-node
-    (λ c κs. search needs) (λ c κs. search needs)  -- changed-requires, update-node-requires
-    returns-2)
+    (λ c κs. search needs) (λ c. search needs)  -- check-requires, enum-known-checked
+    returns-2
+    (λ c. search needs) (λ c κs. search needs) (λ c κs. search needs)  -- enum-told, changed-requires, update-node-requires
+    returns-3)

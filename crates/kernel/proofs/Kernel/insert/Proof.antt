@@ -1,7 +1,7 @@
 -- `kernel::Kernel::insert` meets its contract: what check_insert answers decides it.
 use Rattle.model.proofs.Logic.{_∙_, _≡_, ap, arith, needs, refl, sym}
 use Rattle.kernel.specs.{Fields.layoutOf, Outcomes.answerOf, Outcomes.insertOutcome, declared.Kernel.Kernel}
-use Rattle.kernel.proofs.{Kernel.insert.Statement.statement, Laws.Outcomes.inserts, Laws.Rows.insertion-row, Laws.Lengths.list-sized, Laws.Lengths.sized}
+use Rattle.kernel.proofs.{Kernel.insert.Statement.statement, Laws.Outcomes.insert-returned, Laws.Outcomes.inserts, Laws.Rows.insertion-row, Laws.Lengths.list-sized, Laws.Lengths.sized}
 use Rattle.layouts.proofs.{Laws.Declarations.Insertable, Laws.Declarations.insertable, Laws.Declarations.inserted-laid, Laws.Declarations.more-padded, Laws.Rows.done-row, Laws.Rows.done-sound, Laws.Rows.refused-whole, Laws.Sound.declarations-laid}
 use Rattle.model.proofs.{Laws.Refusals.Passed}
 use Rattle.model.specs.{Commands.Command, Insertion.insertTests, Layouts.Sized, Layouts.tablesOf, Refusals.Tests, Tables.Tables}
@@ -47,7 +47,7 @@ module _ (f : tie.After-append-ports) where
   e = f .before .before
 
 returns : tie.Need-returns
-returns c = let a = c .before .before .before in sym (ap insertOutcome (refused-whole (z a) (command a) _ (answered a) (c .before .checked .given .1)))
+returns c = let a = c .before .before .before in insert-returned (k a) (command a) (sym (ap insertOutcome (refused-whole (z a) (command a) _ (answered a) (c .before .checked .given .1))))
 
 append-ports-requires : tie.Need-append-ports-requires
 unfolding tablesOf
