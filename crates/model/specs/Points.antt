@@ -1,4 +1,4 @@
--- The six points of soundness as document 01 words them, over the places of the tables. Theorems/Points.antt: they are the test `wf`.
+-- Soundness as document 01 words it, over places: the six points of the tables, and the counts and blanks of a kernel. Theorems/Points.antt: they are the tests `wf` and `soundKernel`.
 use mathlib.Core.Path.{_≡_}
 use mathlib.Core.Bool.{false, true}
 use mathlib.Core.List.{List}
@@ -9,7 +9,8 @@ use Rattle.model.specs.declared.records.Link.{Link}
 use Rattle.model.specs.declared.records.Node.{Node}
 use Rattle.model.specs.declared.Parent.{Parent}
 use Rattle.model.specs.declared.Phase.{Phase}
-use Rattle.model.specs.Records.{consumerIn, declaredPort, dependency, ownerIn, parentIn, portIn, providerIn, provision}
+use Rattle.model.specs.Layouts.{Layout, tablesOf}
+use Rattle.model.specs.Records.{blankDeclaration, blankLink, blankNode, consumerIn, declaredPort, dependency, ownerIn, parentIn, portIn, providerIn, provision}
 use Rattle.model.specs.Sizes.{Sizes}
 use Rattle.model.specs.Tables.{Tables}
 
@@ -64,3 +65,17 @@ pub record Points (T : Tables) : Type 0 where
 -- the tables are within the sizes
 abbrev pub Within : Sizes → Tables → Type 0
 Within S T = (length (T .nodes) ≤ S .identities) × (length (T .declarations) ≤ S .declarations) × (length (T .links) ≤ S .links)
+
+-- past the count every entry is this blank
+abbrev pub BlankPast : {A : Type 0} → A → ℕ → List A → Type 0
+BlankPast {A} blank count xs = (i : ℕ) (x : A) → At xs i x → count ≤ i → x ≡ blank
+
+-- a kernel: counts within the sizes, blanks past them, and the six points of its tables
+pub record KernelPoints (S : Sizes) (k : Layout) : Type 0 where
+  pub nodes : k .nodeCount ≤ S .identities
+  pub declarations : k .declarationCount ≤ S .declarations
+  pub links : k .linkCount ≤ S .links
+  pub blank-nodes : BlankPast blankNode (k .nodeCount) (k .nodes)
+  pub blank-declarations : BlankPast blankDeclaration (k .declarationCount) (k .declarations)
+  pub blank-links : BlankPast blankLink (k .linkCount) (k .links)
+  pub points : Points (tablesOf k)

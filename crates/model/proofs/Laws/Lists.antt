@@ -165,3 +165,7 @@ module _ {A : Type 0} where
       go true e false d ih = rw d ih
       go false e true d ih = clash (q x) (f x d) e
       go false e false d ih = ih
+
+-- none is no list
+pub never : {C : Type 0} {A : Type 0} (a : A) → _≡_ {A = Option A} none (some a) → C
+never a e = let z : _≡_ {A = ℕ} 0 1 = cc in absurd (omega arith)

@@ -2,7 +2,7 @@
 use Rattle.model.proofs.Logic.{Bool, List, List·Memᴰ, List·Memᴰ·head, List·Memᴰ·tail, Option, [], _∙_, _∷_, _≡_, ap, arith, cons≢nil, false, head-eq-of-cons-eq, map, nil≢cons, none, not, refl, some, sym, tail-eq-of-cons-eq, true, ℕ}
 use contract.Running.{tables}
 use Rattle.model.specs.{Commands.Command, Commands.Step, Commands.settle, Commands.step, Iteration.Rule, Iteration.loads, Iteration.runs, Lifecycle.checkIteration, Lifecycle.iterationTests, Lifecycle.leaveIfChangedTests, Lifecycle.left, Lifecycle.phaseAt, Lists.isNone, Lists.keep, Observers.phase, Records.bindingIn, Records.consumerIn, Records.isLoading, Records.isRunning, Records.portIn, Records.portOf, Records.providerIn, Records.provision, Records.withPhase, Refusals.Reply, Refusals.first, Refusals.orElse, Resolution.committed, Resolution.dependencyPorts, Resolution.isLiveLinkOf, Resolution.target, Sizes.Sizes, Soundness.sound, Tables.Tables, Tables.nodeAt, Tables.present, declared.Binding.Binding, declared.Error.Error, declared.Phase.Phase, declared.records.Link.Link}
-use Rattle.model.proofs.{Laws.Booleans.clash, Laws.Committed.live-link-of, Laws.Facts.LiveOk, Laws.Facts.Safe, Laws.Facts.facts, Laws.Lists.in-keep, Laws.Lists.in-map, Laws.Nodes.at-same, Laws.Nodes.present-lt, Laws.Phases.loading-running, Laws.Phases.running-installed, Laws.Refusals.skip, Laws.Resolution.Resolved, Laws.Resolution.Targeted, Laws.Resolution.bound-ports, Laws.Resolution.target-resolved, Laws.Resolution.targeted, Theorems.IterationInvariant.IterationInvariant}
+use Rattle.model.proofs.{Laws.Booleans.clash, Laws.Committed.live-link-of, Laws.Facts.LiveOk, Laws.Facts.Safe, Laws.Facts.facts, Laws.Lists.in-keep, Laws.Lists.in-map, Laws.Lists.never, Laws.Nodes.at-same, Laws.Nodes.present-lt, Laws.Phases.loading-running, Laws.Phases.running-installed, Laws.Refusals.skip, Laws.Resolution.Resolved, Laws.Resolution.Targeted, Laws.Resolution.bound-ports, Laws.Resolution.target-resolved, Laws.Resolution.targeted, Theorems.IterationInvariant.IterationInvariant}
 
 pub same-bindings : (bs cs : List Binding) → map portOf bs ≡ map portOf cs → ((b c : Binding) → List·Memᴰ b bs → List·Memᴰ c cs → portOf b ≡ portOf c → b .provider ≡ c .provider) → bs ≡ cs
 same-bindings [] [] e f = refl
@@ -31,9 +31,6 @@ target-committed T id bs k e h =
     let w : LiveOk (T .nodes) (T .declarations) (consumerIn l) (bindingIn l) = k .live l i v in
     let same = k .unique (provision (b .provider) (portOf b)) (provision (providerIn l) (portIn l)) (r .offered) (w .offered) refl refl (r .there) (w .provider-present) (p ∙ ap portOf x) in
     same ∙ sym (ap (λ (z : Binding). z .provider) x))
-
-never : {C : Type 0} {A : Type 0} (a : A) → _≡_ {A = Option A} none (some a) → C
-never a e = let z : _≡_ {A = ℕ} 0 1 = cc in absurd (omega arith)
 
 refusal-not-done : {C : Type 0} (x : Error) → Reply.refused x ≡ Reply.done → C
 refusal-not-done x e = let z : _≡_ {A = ℕ} 0 1 = cc in absurd (omega arith)

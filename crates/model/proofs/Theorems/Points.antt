@@ -1,7 +1,7 @@
--- The test of soundness is document 01's six points, both ways.
-use Rattle.model.proofs.Logic.{Bool, List, List·Memᴰ, _&&_, _<_, _↔_, _∙_, _≡_, arith, decLt, false, getD, length, lt-ltb, ltb, ltb-true, not, refl, true, ℕ}
-use Rattle.model.specs.{Lifecycle.phaseAt, Points.At, Points.Installed, Points.Points, Points.Present, Points.Restoring, Points.Within, Records.bindingIn, Records.blankNode, Records.consumerIn, Records.isInactive, Records.parentIn, Records.providerIn, Sizes.Sizes, Soundness.apart, Soundness.fits, Soundness.parentOk, Soundness.safetyWf, Soundness.sound, Soundness.wf, Tables.Tables, Tables.nodeAt, Tables.notInactive, Tables.present, declared.Parent.Parent, declared.Phase.Phase, declared.records.Link.Link, declared.records.Node.Node}
-use Rattle.model.proofs.{Laws.Booleans.and-i, Laws.Booleans.and-l, Laws.Booleans.and-r, Laws.Booleans.clash, Laws.Booleans.not-t, Laws.Facts.Covered, Laws.Facts.Fits, Laws.Facts.LiveOk, Laws.Facts.NodeOk, Laws.Facts.Safe, Laws.Facts.blank-ok, Laws.Facts.covered-of, Laws.Facts.fits-of, Laws.Facts.of-covered, Laws.Facts.of-fits, Laws.Facts.of-safe, Laws.Facts.safe-of, Laws.Lists.at-in, Laws.Lists.at-onward, Laws.Lists.getD-any, Laws.Lists.in-at, Laws.Lists.onward-at, Laws.Nodes.past-blank, Laws.Nodes.present-lt, Laws.Order.apart-of, Laws.Order.of-apart, Laws.Phases.inactive-is, Laws.Phases.unloading-is}
+-- The test of soundness is document 01's six points, both ways; and that of a kernel its counts, its blanks and these.
+use Rattle.model.proofs.Logic.{Bool, List, List·Memᴰ, [], _&&_, _<_, _↔_, _∙_, _∷_, _≡_, arith, decLt, drop, false, getD, length, lt-ltb, ltb, ltb-true, not, refl, suc, sym, true, zero, ℕ}
+use Rattle.model.specs.{Layouts.Layout, Layouts.soundKernel, Layouts.tablesOf, Lifecycle.phaseAt, Lists.all, Points.At, Points.BlankPast, Points.Installed, Points.KernelPoints, Points.Points, Points.Present, Points.Restoring, Points.Within, Records.bindingIn, Records.blankDeclaration, Records.blankLink, Records.blankNode, Records.consumerIn, Records.isBlankDeclaration, Records.isBlankLink, Records.isBlankNode, Records.isInactive, Records.parentIn, Records.providerIn, Sizes.Sizes, Soundness.apart, Soundness.fits, Soundness.parentOk, Soundness.safetyWf, Soundness.sound, Soundness.wf, Tables.Tables, Tables.nodeAt, Tables.notInactive, Tables.present, declared.Parent.Parent, declared.Phase.Phase, declared.records.Link.Link, declared.records.Node.Node}
+use Rattle.model.proofs.{Laws.Blanks.blank-declaration, Laws.Blanks.blank-link, Laws.Blanks.blank-node, Laws.Booleans.and-i, Laws.Booleans.and-l, Laws.Booleans.and-r, Laws.Booleans.clash, Laws.Booleans.not-t, Laws.Facts.Covered, Laws.Facts.Fits, Laws.Facts.LiveOk, Laws.Facts.NodeOk, Laws.Facts.Safe, Laws.Facts.blank-ok, Laws.Facts.covered-of, Laws.Facts.fits-of, Laws.Facts.of-covered, Laws.Facts.of-fits, Laws.Facts.of-safe, Laws.Facts.safe-of, Laws.Lists.at-in, Laws.Lists.at-onward, Laws.Lists.getD-any, Laws.Lists.in-at, Laws.Lists.onward-at, Laws.Nodes.past-blank, Laws.Nodes.present-lt, Laws.Order.apart-of, Laws.Order.of-apart, Laws.Phases.inactive-is, Laws.Phases.unloading-is, Theorems.Layouts.Laid, Theorems.Layouts.laid-of, Theorems.Layouts.of-laid}
 
 -- ---- nodes by place and by identity
 
@@ -136,3 +136,46 @@ sound-points S T = (to, of)
 
     of : Within S T × Points T → sound S T ≡ true
     of (w, k) = and-i (fits S T) _ (of-fits S T (record { nodes = w .0; declarations = w .1; links = w .2 })) (wf-points T .1 k)
+
+-- ---- a kernel
+
+module _ {A : Type 0} (same : A → Bool) (blank : A) where
+  past-blanks : ((x : A) → same x ≡ true → x ≡ blank) → (c : ℕ) (xs : List A) → all same (drop c xs) ≡ true → BlankPast blank c xs
+  unfolding all
+  past-blanks f c [] h i x a l = absurd (omega (arith, a .0))
+  past-blanks f zero (y ∷ ys) h zero x a l = sym (a .1) ∙ f y (and-l (same y) _ h)
+  past-blanks f zero (y ∷ ys) h (suc i) x a l = past-blanks f zero ys (and-r (same y) _ h) i x (omega (arith, a .0), a .1) (omega arith)
+  past-blanks f (suc c) (y ∷ ys) h zero x a l = absurd (omega arith)
+  past-blanks f (suc c) (y ∷ ys) h (suc i) x a l = past-blanks f c ys h i x (omega (arith, a .0), a .1) (omega arith)
+
+  blanks-past : same blank ≡ true → (c : ℕ) (xs : List A) → BlankPast blank c xs → all same (drop c xs) ≡ true
+  unfolding all
+  blanks-past e zero [] f = refl
+  blanks-past e zero (y ∷ ys) f = and-i (same y) _ (rw (f 0 y (omega arith, refl) (omega arith)) e) (blanks-past e zero ys (λ i x a l. f (suc i) x (omega (arith, a .0), a .1) (omega arith)))
+  blanks-past e (suc c) [] f = refl
+  blanks-past e (suc c) (y ∷ ys) f = blanks-past e c ys (λ i x a l. f (suc i) x (omega (arith, a .0), a .1) (omega arith))
+
+pub kernel-points : (S : Sizes) (k : Layout) → (soundKernel S k ≡ true) ↔ KernelPoints S k
+kernel-points S k = (to, of)
+  where
+    to : soundKernel S k ≡ true → KernelPoints S k
+    to h = let l : Laid S k = laid-of S k h in record {
+      nodes = l .nodes;
+      declarations = l .declarations;
+      links = l .links;
+      blank-nodes = past-blanks isBlankNode blankNode blank-node _ _ (l .blank-nodes);
+      blank-declarations = past-blanks isBlankDeclaration blankDeclaration blank-declaration _ _ (l .blank-declarations);
+      blank-links = past-blanks isBlankLink blankLink blank-link _ _ (l .blank-links);
+      points = wf-points (tablesOf k) .0 (l .points);
+    }
+
+    of : KernelPoints S k → soundKernel S k ≡ true
+    of p = of-laid S k (record {
+      nodes = p .nodes;
+      declarations = p .declarations;
+      links = p .links;
+      blank-nodes = blanks-past isBlankNode blankNode refl _ _ (p .blank-nodes);
+      blank-declarations = blanks-past isBlankDeclaration blankDeclaration refl _ _ (p .blank-declarations);
+      blank-links = blanks-past isBlankLink blankLink refl _ _ (p .blank-links);
+      points = wf-points (tablesOf k) .1 (p .points);
+    })

@@ -10,3 +10,4 @@ pub mod UpdateNode
 pub mod Kernels
 pub mod Identities
 pub mod CheckInsert
+pub mod Updated

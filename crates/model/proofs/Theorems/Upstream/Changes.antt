@@ -1,7 +1,7 @@
 -- Declarations and links after a command: what an interface command adds and drops, what finish_cleanup and the compactions leave.
-use Rattle.model.proofs.Logic.{Bool, List, List·Memᴰ, List·Memᴰ·append-cases, List·Memᴰ·eq-of-singleton, List·Memᴰ·head, Memᴰ·append-left, Memᴰ·append-right, Memᴰ·cast, [], _&&_, _++_, _+_, _||_, _↔_, _∙_, _∷_, _≡_, _⊎_, ap, arith, cond, eq-eqb, eqb, false, inl, inr, length, map, not, refl, sym, true, ℕ}
-use Rattle.model.specs.{Commands.Command, Commands.step, Commands.tests, Compaction.bindingsCompacted, Compaction.bindingsRemoved, Compaction.declarationsCompacted, Compaction.declarationsRemoved, Insertion.newDeclarations, Interface.listed, Interface.own, Interface.reliesOn, Lifecycle.phaseAt, Lists.keep, Observers.bindingRecords, Observers.declarationRecords, Observers.provisionReserved, Records.consumerIn, Records.deadFor, Records.declaredPort, Records.dependency, Records.isInactive, Records.isLive, Records.isRunning, Records.isUnloading, Records.ownerIn, Records.portIn, Records.providerIn, Records.provision, Refusals.Reply, Refusals.accepted, Resolution.committed, Resolution.isDependencyOf, Sizes.Sizes, Soundness.declares, Soundness.isDeclaration, Tables.Tables, Tables.nodeAt, Tables.present, declared.Parent.Parent, declared.Phase.Phase, declared.Port.Port, declared.PortList.PortList, declared.records.Declaration.Declaration, declared.records.Link.Link}
-use Rattle.model.proofs.{Laws.Booleans.and-i, Laws.Booleans.and-l, Laws.Booleans.clash, Laws.Booleans.f-not, Laws.Booleans.not-f, Laws.Booleans.not-t, Laws.Committed.committed-compact, Laws.Committed.committed-dead, Laws.Pieces.refuted, Laws.Facts.declaration-passes, Laws.Facts.declares-in, Laws.Facts.in-declares, Laws.Facts.is-declaration, Laws.Facts.port-same, Laws.Lists.in-keep, Laws.Lists.in-map, Laws.Lists.keep-in, Laws.Lists.length-keep, Laws.Lists.map-in, Laws.Lists.none-in, Laws.Live.any-kept, Laws.Refusals.Passed, Laws.Refusals.step-keeps, Theorems.FinishCleanup.dead-live, Theorems.Upstream.Replies.accepted-step, Theorems.Upstream.Replies.accepts}
+use Rattle.model.proofs.Logic.{Bool, List, List·Memᴰ, List·Memᴰ·append-cases, List·Memᴰ·eq-of-singleton, List·Memᴰ·head, Memᴰ·append-left, Memᴰ·append-right, Memᴰ·cast, [], _&&_, _++_, _+_, _<_, _||_, _↔_, _∙_, _∷_, _≡_, _⊎_, ap, arith, cond, eq-eqb, eqb, false, inl, inr, length, map, not, refl, sym, true, ℕ}
+use Rattle.model.specs.{Commands.Command, Commands.step, Commands.tests, Compaction.bindingsCompacted, Compaction.bindingsRemoved, Compaction.declarationsCompacted, Compaction.declarationsRemoved, Insertion.newDeclarations, Interface.listed, Interface.own, Interface.reliesOn, Lifecycle.phaseAt, Lists.keep, Observers.bindingRecords, Observers.declarationRecords, Observers.provisionReserved, Records.consumerIn, Records.deadFor, Records.declarationOf, Records.declaredPort, Records.dependency, Records.isInactive, Records.isLive, Records.isRunning, Records.isUnloading, Records.ownerIn, Records.portIn, Records.providerIn, Records.provision, Refusals.Reply, Refusals.accepted, Resolution.committed, Resolution.isDependencyOf, Sizes.Sizes, Soundness.declares, Soundness.isDeclaration, Soundness.sound, Tables.Tables, Tables.nodeAt, Tables.present, declared.Parent.Parent, declared.Phase.Phase, declared.Port.Port, declared.PortList.PortList, declared.records.Declaration.Declaration, declared.records.Link.Link}
+use Rattle.model.proofs.{Laws.Booleans.and-i, Laws.Booleans.and-l, Laws.Booleans.clash, Laws.Booleans.f-not, Laws.Booleans.not-f, Laws.Booleans.not-t, Laws.Committed.committed-compact, Laws.Committed.committed-dead, Laws.Pieces.refuted, Laws.Facts.declaration-passes, Laws.Facts.declares-in, Laws.Facts.facts, Laws.Facts.in-declares, Laws.Facts.is-declaration, Laws.Facts.port-same, Laws.Lists.in-keep, Laws.Lists.in-map, Laws.Lists.keep-in, Laws.Lists.length-keep, Laws.Lists.map-in, Laws.Lists.none-in, Laws.Live.any-kept, Laws.Refusals.Passed, Laws.Refusals.step-keeps, Theorems.FinishCleanup.dead-live, Theorems.Upstream.Replies.accepted-step, Theorems.Upstream.Replies.accepts}
 
 -- ---- declare_provision
 
@@ -110,6 +110,44 @@ module _ (S : Sizes) (T : Tables) (q : Parent) (ds ps : PortList) where
 
   pub inserted-declarations : accepted ((step S T inserting) .reply) ≡ true → (step S T inserting) .tables .declarations ≡ T .declarations ++ newDeclarations (length (T .nodes)) ds ps
   inserted-declarations h = rw (accepted-step S T (Command.insert q ds ps) (accepts S T (Command.insert q ds ps) .0 h))
+
+  module _ (s : sound S T ≡ true) where
+    -- no earlier declaration names the new identity
+    pub new-unnamed : (d : Declaration) → List·Memᴰ d (T .declarations) → ownerIn d ≡ length (T .nodes) → ⊥
+    new-unnamed d m e = let l : ownerIn d < length (T .nodes) = facts S T s .safe .owners d m in absurd (omega arith)
+
+    -- so that its dependencies and its provisions are just the listed ports
+    module _ (h : accepted ((step S T inserting) .reply) ≡ true) (p : Port) where
+      abbrev new : ℕ
+      new = length (T .nodes)
+
+      of-list : (b : Bool) → List·Memᴰ (declarationOf new b p) ((step S T inserting) .tables .declarations) → List·Memᴰ (declarationOf new b p) (newDeclarations new ds ps)
+      of-list b m = go (List·Memᴰ·append-cases (T .declarations) (rw (inserted-declarations h) at m))
+        where
+          go : List·Memᴰ (declarationOf new b p) (T .declarations) ⊎ List·Memᴰ (declarationOf new b p) (newDeclarations new ds ps) → List·Memᴰ (declarationOf new b p) (newDeclarations new ds ps)
+          go (inl n) = absurd (new-unnamed _ n refl)
+          go (inr n) = n
+
+      listed-in : (xs : List Port) (b c : Bool) → List·Memᴰ (declarationOf new b p) (map (declarationOf new c) xs) → (b ≡ c) × List·Memᴰ p xs
+      listed-in xs b c m =
+          let (x, n, e) = in-map (declarationOf new c) xs m in
+          (ap (λ (d : Declaration). d .provides) e, Memᴰ·cast (ap (λ (d : Declaration). declaredPort d) e) n)
+
+      pub inserted-dependencies : List·Memᴰ (dependency new p) ((step S T inserting) .tables .declarations) ↔ List·Memᴰ p (listed ds)
+      inserted-dependencies = (λ m. go (List·Memᴰ·append-cases (map (dependency new) (listed ds)) (of-list false m)),
+          λ m. rw (inserted-declarations h) (Memᴰ·append-right (T .declarations) (Memᴰ·append-left (map (provision new) (listed ps)) (map-in (dependency new) m))))
+        where
+          go : List·Memᴰ (dependency new p) (map (dependency new) (listed ds)) ⊎ List·Memᴰ (dependency new p) (map (provision new) (listed ps)) → List·Memᴰ p (listed ds)
+          go (inl m) = (listed-in (listed ds) false false m) .1
+          go (inr m) = clash true refl (sym ((listed-in (listed ps) false true m) .0))
+
+      pub inserted-provisions : List·Memᴰ (provision new p) ((step S T inserting) .tables .declarations) ↔ List·Memᴰ p (listed ps)
+      inserted-provisions = (λ m. go (List·Memᴰ·append-cases (map (dependency new) (listed ds)) (of-list true m)),
+          λ m. rw (inserted-declarations h) (Memᴰ·append-right (T .declarations) (Memᴰ·append-right (map (dependency new) (listed ds)) (map-in (provision new) m))))
+        where
+          go : List·Memᴰ (provision new p) (map (dependency new) (listed ds)) ⊎ List·Memᴰ (provision new p) (map (provision new) (listed ps)) → List·Memᴰ p (listed ps)
+          go (inl m) = clash true refl ((listed-in (listed ds) true false m) .0)
+          go (inr m) = (listed-in (listed ps) true true m) .1
 
 -- ---- finish_cleanup
 

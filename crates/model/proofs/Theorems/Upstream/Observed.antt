@@ -1,7 +1,7 @@
 -- resolve, target and committed as the original's contracts speak of them, and coherence.
-use Rattle.model.proofs.Logic.{List, List·Memᴰ, List·Memᴰ·head, List·Memᴰ·tail, Memᴰ·cast, Option, [], _&&_, _<_, _↔_, _∙_, _∷_, _≡_, ap, arith, eq-eqb, false, length, length-map, none, not, refl, some, subst, suc, sym, true, zero, ℕ}
+use Rattle.model.proofs.Logic.{List, List·Memᴰ, List·Memᴰ·head, List·Memᴰ·tail, Memᴰ·cast, Option, [], _&&_, _<_, _↔_, _∙_, _∷_, _≡_, _⊎_, ap, arith, eq-eqb, false, inl, inr, length, length-map, none, not, refl, some, subst, suc, sym, true, zero, ℕ}
 use Rattle.model.specs.{Interface.distinct, Interface.taken, Interface.takenBy, Lists.any, Lists.isNone, Lists.keep, Points.At, Records.bindingIn, Records.consumerIn, Records.declaredPort, Records.dependency, Records.ownerIn, Records.portIn, Records.portOf, Records.providerIn, Records.provision, Records.samePort, Resolution.Provides, Resolution.bindPorts, Resolution.committed, Resolution.dependencyPorts, Resolution.isLiveLinkOf, Resolution.joined, Resolution.target, Sizes.Sizes, Soundness.sound, Tables.Tables, Tables.nodeAt, Tables.notInactive, Tables.present, declared.Binding.Binding, declared.Port.Port, declared.records.Link.Link}
-use Rattle.model.proofs.{Laws.Booleans.and-i, Laws.Booleans.and-l, Laws.Booleans.and-r, Laws.Booleans.clash, Laws.Booleans.f-not, Laws.Booleans.not-t, Laws.Committed.live-link-of, Laws.Pieces.refuted, Laws.Facts.Linked, Laws.Facts.LiveOk, Laws.Facts.facts, Laws.Facts.not-restoring, Laws.Facts.port-same, Laws.Facts.same-port, Laws.Lists.any-in, Laws.Lists.at-in, Laws.Lists.in-at, Laws.Lists.in-keep, Laws.Lists.in-map, Laws.Lists.is-some, Laws.Lists.keep-in, Laws.Lists.map-in, Laws.Lists.none-in, Laws.Records.declaration-is, Laws.Resolution.Targeted, Laws.Resolution.bound-in, Laws.Resolution.bound-ports, Laws.Resolution.target-bound, Laws.Resolution.target-covers, Laws.Resolution.target-needed, Laws.Resolution.targeted, Laws.Resolution.wants-in, Theorems.Points.at-node, Theorems.Points.to-present, Theorems.Resolution.resolve-some}
+use Rattle.model.proofs.{Laws.Booleans.and-i, Laws.Booleans.and-l, Laws.Booleans.and-r, Laws.Booleans.cases, Laws.Booleans.clash, Laws.Booleans.f-not, Laws.Booleans.not-t, Laws.Committed.live-link-of, Laws.Pieces.refuted, Laws.Facts.Linked, Laws.Facts.LiveOk, Laws.Facts.facts, Laws.Facts.not-restoring, Laws.Facts.port-same, Laws.Facts.same-port, Laws.Lists.any-in, Laws.Lists.never, Laws.Lists.at-in, Laws.Lists.in-at, Laws.Lists.in-keep, Laws.Lists.in-map, Laws.Lists.is-some, Laws.Lists.keep-in, Laws.Lists.map-in, Laws.Lists.none-in, Laws.Records.declaration-is, Laws.Resolution.Targeted, Laws.Resolution.bound-in, Laws.Resolution.bound-ports, Laws.Resolution.target-bound, Laws.Resolution.target-covers, Laws.Resolution.target-needed, Laws.Resolution.targeted, Laws.Resolution.wants-in, Theorems.Points.at-node, Theorems.Points.to-present, Theorems.Resolution.resolve-none, Theorems.Resolution.resolve-some}
 
 abbrev pub BindingIsTarget : Tables → ℕ → Binding → Type 0
 BindingIsTarget T id b = Provides T (portOf b) (b .provider) × List·Memᴰ (dependency id (portOf b)) (T .declarations)
@@ -13,7 +13,13 @@ pub record CompleteTarget (T : Tables) (id : ℕ) (bs : List Binding) : Type 0 w
   pub targets : (b : Binding) → List·Memᴰ b bs → BindingIsTarget T id b
   pub covers : (p : Port) → List·Memᴰ (dependency id p) (T .declarations) → (b : Binding) × List·Memᴰ b bs × (p ≡ portOf b)
 
--- the opposite of unavailable
+-- unavailable
+pub data Unavailable (T : Tables) (id : ℕ) : Type 0 where
+  absent : present (T .nodes) id ≡ false → Unavailable T id
+  retired : (nodeAt (T .nodes) id) .retired ≡ true → Unavailable T id
+  unprovided : (p : Port) → List·Memᴰ (dependency id p) (T .declarations) → ((o : ℕ) → Provides T p o → ⊥) → Unavailable T id
+
+-- its opposite
 pub record Available (T : Tables) (id : ℕ) : Type 0 where
   pub there : present (T .nodes) id ≡ true
   pub kept : (nodeAt (T .nodes) id) .retired ≡ false
@@ -38,6 +44,17 @@ bind-all f (p ∷ ps) h =
     let (o, e) = h p (List·Memᴰ·head refl) in
     let (bs, g) = is-some (bindPorts f ps) (bind-all f ps (λ q m. h q (List·Memᴰ·tail m))) in
     rw (e, g)
+
+-- a port that does not resolve
+bind-none : (f : Port → Option ℕ) (ps : List Port) → bindPorts f ps ≡ none → (p : Port) × List·Memᴰ p ps × (f p ≡ none)
+unfolding bindPorts joined
+bind-none f [] h = never _ (sym h)
+bind-none f (p ∷ ps) h = go (f p) refl (bindPorts f ps) (λ g. bind-none f ps g) h
+  where
+    go : (o : Option ℕ) → f p ≡ o → (r : Option (List Binding)) → (r ≡ none → (q : Port) × List·Memᴰ q ps × (f q ≡ none)) → joined p o r ≡ none → (q : Port) × List·Memᴰ q (p ∷ ps) × (f q ≡ none)
+    go none e r g j = (p, List·Memᴰ·head refl, e)
+    go (some o) e none g j = let (q, m, k) = g refl in (q, List·Memᴰ·tail m, k)
+    go (some o) e (some bs) g j = never _ (sym j)
 
 -- a binding for each dependency record
 pub target-length : (T : Tables) (id : ℕ) (bs : List Binding) → target T id ≡ some bs → length bs ≡ length (dependencyPorts (T .declarations) id)
@@ -69,9 +86,16 @@ module _ (S : Sizes) (T : Tables) (h : sound S T ≡ true) where
       back : Available T id → isNone (target T id) ≡ false
       back a = rw (target-bound T id (rw (a .there, a .kept))) (bind-all _ _ (λ p m. let (o, w) = a .provided p (wants-in (T .declarations) id p m) in (o, resolve-some S T h p o .1 w)))
 
-  -- no target: unavailable
-  pub target-unavailable : (id : ℕ) → target T id ≡ none → Available T id → ⊥
-  target-unavailable id e a = clash {A = ⊥} _ (rw e) (target-available id .1 a)
+  -- no target: unavailable, by a dependency that nobody provides if it is present and not retired
+  pub target-unavailable : (id : ℕ) → target T id ≡ none → Unavailable T id
+  target-unavailable id e = go (cases (present (T .nodes) id)) (cases ((nodeAt (T .nodes) id) .retired))
+    where
+      go : (present (T .nodes) id ≡ true) ⊎ (present (T .nodes) id ≡ false) → ((nodeAt (T .nodes) id) .retired ≡ true) ⊎ ((nodeAt (T .nodes) id) .retired ≡ false) → Unavailable T id
+      go (inr t) r = Unavailable.absent t
+      go (inl t) (inl r) = Unavailable.retired r
+      go (inl t) (inr r) =
+          let (p, m, f) = bind-none _ _ (sym (target-bound T id (rw (t, r))) ∙ e) in
+          Unavailable.unprovided p (wants-in (T .declarations) id p m) (resolve-none S T h p .0 f)
 
   -- a component that is not Inactive and has a target is coherent, and the other way round
   pub coherent-target : (id : ℕ) → notInactive (T .nodes) id ≡ true → (isNone (target T id) ≡ false) ↔ Coherent T id
