@@ -2,19 +2,21 @@
 use mathlib.Core.Path.{_≡_}
 use mathlib.Core.Bool.{true}
 use mathlib.Core.List.{List}
-use mathlib.Core.Option.{Option}
-use Prim.Native.Nat.{ℕ}
+use mathlib.Core.Option.{Option, some}
+use mathlib.Core.Logic.{_↔_}
+use Prim.Native.Nat.{_≤_, ℕ}
 use Rattle.kernel.specs.declared.Kernel.{Kernel}
 use Rattle.model.specs.declared.Binding.{Binding}
 use Rattle.model.specs.declared.Error.{Error}
 use Rattle.kernel.specs.Fields.{isSound, kernelOf, layoutOf}
 use Rattle.kernel.specs.Outcomes.{command}
 use Rattle.model.specs.Commands.{Command}
-use Rattle.model.specs.Iteration.{RuleAt, last}
+use Rattle.model.specs.Iteration.{Agree, RuleAt, committedOf, last, targetOf}
 use Rattle.model.specs.Kernels.{AnsweredAt, emptyKernel, reached}
 use Rattle.model.specs.Refusals.{Reply}
 use Rattle.model.specs.Space.{BegunAfterCompaction, RefusedForSpace}
-use Rattle.sizes.specs.Sizes.{sizes}
+use Rattle.results.specs.Results.{committedBindings, targetBindings}
+use Rattle.sizes.specs.Sizes.{DECLARATIONS, LINKS, sizes}
 
 -- demand 1: whatever the kernel and the command, 0 or one of the ten numbers, and with these the kernel as it was
 abbrev pub Demand1 : Type 0
@@ -31,6 +33,20 @@ begunBy cs id = last sizes cs id
 -- demand 3: one claim about every list of commands, for every identity
 abbrev pub Demand3 : Type 0
 Demand3 = (cs : List Command) (id : ℕ) → RuleAt sizes (layoutOf (reachedBy cs)) id (begunBy cs id)
+
+-- demand 3 in what the observers return, of an identity on two kernels (the one handed to begin, and the one now): nothing is cut,
+-- and two answers agree in count and at each place exactly if the lists that demand 3 compares are equal
+pub record ObserversAgree (k m : Kernel) (id : ℕ) : Type 0 where
+  pub target-whole : (targetBindings (targetOf sizes (layoutOf k) id)) .count ≤ DECLARATIONS
+  pub committed-whole : (committedBindings (committedOf sizes (layoutOf m) id)) .count ≤ LINKS
+  pub targets :
+      let t = targetBindings (targetOf sizes (layoutOf k) id) in
+      let u = targetBindings (targetOf sizes (layoutOf m) id) in
+      ((t .there ≡ u .there) × Agree (t .bindings) (t .count) (u .bindings) (u .count)) ↔ (targetOf sizes (layoutOf k) id ≡ targetOf sizes (layoutOf m) id)
+  pub committed :
+      let t = targetBindings (targetOf sizes (layoutOf k) id) in
+      let c = committedBindings (committedOf sizes (layoutOf m) id) in
+      ((t .there ≡ true) × Agree (t .bindings) (t .count) (c .bindings) (c .count)) ↔ (targetOf sizes (layoutOf k) id ≡ some (committedOf sizes (layoutOf m) id))
 
 -- every reached kernel is sound, and no command on it answers 10
 abbrev pub ReachedSound : Type 0

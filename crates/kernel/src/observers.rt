@@ -7,12 +7,12 @@ ghost use Rattle.kernel.specs.Fields.{ask};
 ghost use Rattle.model.specs.Answers.{optionPhase, optionGeneration};
 ghost use Rattle.model.specs.Soundness.{declares};
 ghost use Rattle.model.specs.Observers.{contains, phase, retired, cleanupStarted, episodeGeneration, bindingRecords, identitySlots, declarationRecords, dependencyDeclared, provisionReserved, ids, children};
-ghost use Rattle.scans.specs.Results.{identities};
+ghost use Rattle.results.specs.Results.{identities};
 use crate::Kernel;
 use model::OptionGeneration;
 use model::OptionPhase;
 use model::Port;
-use scans::Identities;
+use results::Identities;
 use sizes::IDENTITIES;
 
 impl Kernel {

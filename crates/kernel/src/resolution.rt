@@ -6,12 +6,12 @@ ghost use Rattle.kernel.specs.Fields.{ask};
 ghost use Rattle.model.specs.Answers.{resolution};
 ghost use Rattle.model.specs.Resolution.{resolve, target, committed};
 ghost use Rattle.model.specs.Tables.{providing};
-ghost use Rattle.scans.specs.Results.{targetBindings, committedBindings};
+ghost use Rattle.results.specs.Results.{targetBindings, committedBindings};
 use crate::Kernel;
 use model::Port;
 use model::Resolution;
-use scans::CommittedBindings;
-use scans::TargetBindings;
+use results::CommittedBindings;
+use results::TargetBindings;
 
 impl Kernel {
     // The Active owner that provides the port.

@@ -14,5 +14,6 @@ pub mod Points
 pub mod Resolution
 pub mod Layouts
 pub mod Kernels
+pub mod Agreement
 pub mod Samples
 pub mod Upstream

@@ -4,8 +4,9 @@ use mathlib.Core.Bool.{Bool, _&&_, cond, false, true}
 use mathlib.Core.List.{List, [], _∷_}
 use mathlib.Core.Option.{Option, none, some}
 use mathlib.Core.Logic.{_↔_}
-use Prim.Native.Nat.{ℕ}
+use Prim.Native.Nat.{_<_, ℕ}
 use lib.Dec.{eqb}
+use lib.ListN.{getD}
 use Rattle.model.specs.declared.Binding.{Binding}
 use Rattle.model.specs.declared.Error.{Error}
 use Rattle.model.specs.declared.Phase.{Phase}
@@ -14,7 +15,7 @@ use Rattle.model.specs.Kernels.{asked, commanded, emptyKernel, reached}
 use Rattle.model.specs.Layouts.{Layout}
 use Rattle.model.specs.Lifecycle.{checkIteration}
 use Rattle.model.specs.Observers.{phase}
-use Rattle.model.specs.Records.{isLoading, isRunning}
+use Rattle.model.specs.Records.{blankBinding, isLoading, isRunning}
 use Rattle.model.specs.Refusals.{Reply, accepted}
 use Rattle.model.specs.Resolution.{committed, target}
 use Rattle.model.specs.Sizes.{Sizes}
@@ -90,3 +91,12 @@ RuleAt S k id begun =
 -- one claim about every list of commands
 abbrev pub IterationRule : Type 0
 IterationRule = (S : Sizes) (cs : List Command) (id : ℕ) → RuleAt S (reached S cs) id (last S cs id)
+
+-- ---- the same in what target and committed return, bindings in an array with a count
+
+abbrev pub SameBinding : Binding → Binding → Type 0
+SameBinding b c = (b .key ≡ c .key) × (b .realm ≡ c .realm) × (b .provider ≡ c .provider)
+
+-- two answers agree: the same count, and the same key, realm and provider at each place below it
+abbrev pub Agree : List Binding → ℕ → List Binding → ℕ → Type 0
+Agree xs n ys m = (n ≡ m) × ((i : ℕ) → i < n → SameBinding (getD xs i blankBinding) (getD ys i blankBinding))

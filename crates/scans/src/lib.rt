@@ -1,8 +1,5 @@
 // The loops that read a kernel's tables. A table of records comes by value, once a call; what a loop calls is lent columns or gets single records.
-use model::Binding;
-use sizes::DECLARATIONS;
 use sizes::IDENTITIES;
-use sizes::LINKS;
 
 mod columns;
 pub mod declarations;
@@ -30,23 +27,4 @@ pub use updates::update_node;
 pub struct NodeFlags {
     pub present: [bool; IDENTITIES],
     pub providing: [bool; IDENTITIES],
-}
-
-// Identities in order, and how many; 0 past the count.
-pub struct Identities {
-    pub ids: [usize; IDENTITIES],
-    pub count: usize,
-}
-
-// The bindings of a target and how many, blank past the count; whether there is a target.
-pub struct TargetBindings {
-    pub bindings: [Binding; DECLARATIONS],
-    pub count: usize,
-    pub there: bool,
-}
-
-// The bindings of a consumer's live links and how many, blank past the count.
-pub struct CommittedBindings {
-    pub bindings: [Binding; LINKS],
-    pub count: usize,
 }

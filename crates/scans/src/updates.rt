@@ -3,7 +3,7 @@ ghost use mathlib.Core.Path.{_≡_};
 ghost use lib.ListN.{take};
 ghost use Rattle.model.specs.Answers.{checked};
 ghost use Rattle.model.specs.UpdateNode.{updateNodeTests, updateTests};
-ghost use Rattle.scans.specs.Results.{nodesAndLinks};
+ghost use Rattle.scans.specs.Flags.{nodesAndLinks};
 use crate::nodes::has_child;
 use crate::nodes::parent_ok;
 use loops::at_most;

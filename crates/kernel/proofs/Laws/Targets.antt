@@ -2,7 +2,7 @@
 use Rattle.model.proofs.Logic.{List, Option, _∙_, _≡_, ap, false, getD, none, not, some, sym, ℕ}
 use Rattle.kernel.specs.{Fields.layoutOf, declared.Kernel.Kernel}
 use Rattle.model.specs.{Layouts.tablesOf, Lifecycle.bindings, Lists.isNone, Records.blankBinding, Records.blankNode, Resolution.target, declared.Binding.Binding}
-use Rattle.scans.specs.{Results.targetBindings, declared.TargetBindings.TargetBindings}
+use Rattle.results.specs.{Results.targetBindings, declared.TargetBindings.TargetBindings}
 use Rattle.layouts.proofs.{Laws.Anew.Holds, Laws.Sound.SoundKernel, Laws.Targets.Held, Laws.Targets.found, Laws.Targets.isUntargeted, Laws.Targets.target-found}
 use Rattle.sizes.specs.{Sizes.DECLARATIONS, Sizes.sizes}
 

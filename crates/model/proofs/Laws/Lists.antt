@@ -169,3 +169,6 @@ module _ {A : Type 0} where
 -- none is no list
 pub never : {C : Type 0} {A : Type 0} (a : A) → _≡_ {A = Option A} none (some a) → C
 never a e = let z : _≡_ {A = ℕ} 0 1 = cc in absurd (omega arith)
+
+pub some-same : {A : Type 0} {a b : A} → some a ≡ some b → a ≡ b
+some-same e = cc

@@ -2,7 +2,7 @@
 use Rattle.model.proofs.Logic.{List, [], _++_, _+_, _-_, _∙_, _≡_, _≤_, add-one, ap, append-nil, arith, eqb-false, getD, length, length-take-le, map, needs, some, sym, take, ℕ}
 use Rattle.kernel.specs.{Fields.layoutOf, Outcomes.Returns, declared.Kernel.Kernel}
 use Rattle.model.specs.{Commands.Command, Commands.tests, Layouts.tablesOf, Lists.padded, Records.blankBinding, Records.blankLink, Records.blankNode, Records.liveLink, Refusals.first, declared.Answer.Answer, declared.Binding.Binding, declared.Error.Error, declared.rows.Row.Row, declared.records.Link.Link, declared.records.Node.Node}
-use Rattle.scans.specs.{declared.TargetBindings.TargetBindings}
+use Rattle.results.specs.{declared.TargetBindings.TargetBindings}
 use Rattle.kernel.proofs.{Kernel.begin.Statement.statement, Laws.Outcomes.hands-accepted, Laws.Outcomes.hands-damaged, Laws.Outcomes.hands-refused, Laws.Lengths.sized, Laws.Targets.held}
 use Rattle.layouts.proofs.{Laws.Nodes.Beginnable, Laws.Nodes.Tested, Laws.Nodes.array-tests, Laws.Nodes.beginnable, Laws.Nodes.is-present, Laws.Nodes.node-refuses, Laws.Nodes.past-unknown, Laws.Nodes.rest, Laws.Nodes.tested-array, Laws.Sound.SoundKernel, Laws.Sound.laid, Laws.Sound.links-laid, Laws.Sound.tested-sound, Laws.Targets.Held, Laws.Targets.begun-laid, Laws.Targets.space-none, Laws.Targets.space-some, Laws.Targets.target-missing, Laws.Targets.target-most, Laws.Targets.target-width}
 use Rattle.loops.proofs.{Laws.Edit.appended-next}

@@ -3,7 +3,7 @@ use Rattle.model.proofs.Logic.{Bool, List, [], _∙_, ap, needs, refl}
 use Rattle.kernel.proofs.{Kernel.children.Statement.statement, Laws.Observers.asks-sound, Laws.Observers.asks-unsound, Laws.Lengths.sized}
 use Rattle.layouts.proofs.{Laws.Sound.places-are, Laws.Sound.tested-sound}
 use Rattle.model.specs.{Lists.places, Observers.children, Records.isChildOf}
-use Rattle.scans.specs.{Results.identities}
+use Rattle.results.specs.{Results.identities}
 use Rattle.kernel.proofs.Kernel.children.Tie as tie
 
 returns : tie.Need-returns

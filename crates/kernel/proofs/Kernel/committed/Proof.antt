@@ -3,7 +3,7 @@ use Rattle.model.proofs.Logic.{List, [], _∙_, ap, needs, refl}
 use Rattle.model.specs.{Layouts.tablesOf, Lists.keep, Resolution.committed, Tables.Tables, declared.Binding.Binding}
 use Rattle.kernel.proofs.{Kernel.committed.Statement.statement, Laws.Observers.asks-sound, Laws.Observers.asks-unsound, Laws.Lengths.sized}
 use Rattle.layouts.proofs.{Laws.Sound.tested-sound}
-use Rattle.scans.specs.{Results.committedBindings}
+use Rattle.results.specs.{Results.committedBindings}
 use Rattle.kernel.proofs.Kernel.committed.Tie as tie
 
 -- what is asked of the tables

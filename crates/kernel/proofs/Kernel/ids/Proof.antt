@@ -1,6 +1,7 @@
 -- `kernel::Kernel::ids` meets its contract.
 use Rattle.model.proofs.Logic.{[], _∙_, ap, needs, refl}
-use Rattle.scans.specs.{Results.identities, declared.NodeFlags.NodeFlags}
+use Rattle.results.specs.{Results.identities}
+use Rattle.scans.specs.{declared.NodeFlags.NodeFlags}
 use Rattle.kernel.proofs.{Kernel.ids.Statement.statement, Laws.Observers.asks-sound, Laws.Observers.asks-unsound, Laws.Lengths.sized}
 use Rattle.layouts.proofs.{Laws.Sound.places-are, Laws.Sound.tested-sound}
 use Rattle.model.specs.{Lists.places, Observers.ids}

@@ -4,7 +4,7 @@ use Rattle.kernel.specs.{Fields.ask, Fields.layoutOf, declared.component
 use Rattle.kernel.proofs.{Kernel.target.Statement.statement, Laws.Lengths.sized}
 use Rattle.layouts.proofs.{Laws.Targets.asks-target, Laws.Targets.isUntargeted, Laws.Targets.no-target, Laws.Targets.targeted-sound}
 use Rattle.model.specs.{Layouts.Layout, Records.blankNode, Tables.nodeAt}
-use Rattle.scans.specs.{Results.targetBindings}
+use Rattle.results.specs.{Results.targetBindings}
 use Rattle.sizes.specs.{Sizes.sizes}
 use Rattle.kernel.proofs.Kernel.target.Tie as tie
 
