@@ -1,17 +1,13 @@
-// The loops that write a kernel's tables: what is kept, what is appended, what becomes dead.
+// The loops that write a kernel's tables: what is kept, what becomes dead.
 ghost use mathlib.Core.Path.{_≡_};
 ghost use mathlib.Core.List.{map, _++_};
-ghost use Prim.Native.Nat.{_+_, _≤_};
 ghost use lib.ListN.{drop, take};
-ghost use Rattle.model.specs.Lists.{keep, padded};
-ghost use Rattle.model.specs.Records.{blankDeclaration, deadFor, declarationOf, isLive};
-ghost use Rattle.model.specs.Interface.{listed};
+ghost use Rattle.model.specs.Lists.{keep};
+ghost use Rattle.model.specs.Records.{deadFor, isLive};
 ghost use Rattle.edits.specs.Kept.{keeping, keptDeclarations, keptLinks};
-ghost use Rattle.sizes.specs.Sizes.{DECLARATIONS};
 use model::Declaration;
 use model::Link;
 use model::Port;
-use model::PortList;
 use sizes::DECLARATIONS;
 use sizes::IDENTITIES;
 use sizes::LINKS;
@@ -98,28 +94,6 @@ pub fn kept_declarations(
         declarations: kept,
         count: n,
     }
-}
-
-// The declarations with those of an owner for a list of ports behind them.
-pub fn append_ports(
-    mut declarations: [Declaration; DECLARATIONS],
-    count: usize,
-    owner: usize,
-    list: PortList,
-    provides: bool,
-) -> [Declaration; DECLARATIONS]
-    requires { ⌜ (list .count ≤ 32) × (count + list .count ≤ DECLARATIONS) × (declarations ≡ padded DECLARATIONS blankDeclaration (take count declarations)) ⌝ }
-    ensures { λ r. ⌜ r ≡ padded DECLARATIONS blankDeclaration (take count declarations ++ map (declarationOf owner provides) (listed list)) ⌝ }
-{
-    let more = list.count;
-    let ports = list.ports;
-    let mut i = 0;
-    while i < more {
-        let p = ports[i];
-        declarations[count + i] = records::declaration_of(owner, provides, p);
-        i += 1;
-    }
-    declarations
 }
 
 // The links, those of this consumer below the count dead.

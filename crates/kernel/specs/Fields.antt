@@ -12,7 +12,7 @@ layoutOf k = record { nodes = k .nodes; nodeCount = k .«node_count»; declarati
 abbrev pub kernelOf : Layout → Kernel
 kernelOf k = record { nodes = k .nodes; «node_count» = k .nodeCount; declarations = k .declarations; «declaration_count» = k .declarationCount; links = k .links; «link_count» = k .linkCount }
 
--- document 01's soundness of a kernel value
+-- the rules' soundness of a kernel value
 abbrev pub isSound : Kernel → Bool
 isSound k = soundKernel sizes (layoutOf k)
 

@@ -2,7 +2,6 @@
 ghost use mathlib.Core.Path.{_≡_};
 ghost use Rattle.kernel.specs.Outcomes.{answerOf, entryOf};
 ghost use Rattle.layouts.specs.Rows.{ofNode};
-ghost use Prim.Native.Nat.{_<_};
 ghost use lib.ListN.{getD, set};
 ghost use Rattle.model.specs.Records.{blankNode};
 ghost use Rattle.model.specs.Rows.{changedNode, nodeTests};
@@ -59,16 +58,17 @@ impl Kernel {
     }
 }
 
-// The nodes, this identity's changed.
+// The nodes, this identity's changed; past the table nothing.
 pub(crate) fn change(
     mut nodes: [Node; IDENTITIES],
     id: usize,
     transition: Transition,
 ) -> [Node; IDENTITIES]
-    requires { ⌜ id < IDENTITIES ⌝ }
     ensures { λ r. ⌜ r ≡ set nodes id (changedNode transition (getD nodes id blankNode)) ⌝ }
 {
-    let node = nodes[id];
-    nodes[id] = records::transitions::changed(transition, node);
+    if id < IDENTITIES {
+        let node = nodes[id];
+        nodes[id] = records::changed(transition, node);
+    }
     nodes
 }

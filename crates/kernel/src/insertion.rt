@@ -9,6 +9,7 @@ ghost use Rattle.model.specs.Refusals.{Reply};
 ghost use Rattle.sizes.specs.Sizes.{sizes};
 use crate::InsertOutcome;
 use crate::Kernel;
+use crate::ports::append_ports;
 use model::Answer;
 use model::Error;
 use model::InsertAnswer;
@@ -81,8 +82,8 @@ impl Kernel {
         let offered = provisions.count;
         let declarations = self.declarations;
         let count = self.declaration_count;
-        let more = edits::append_ports(declarations, count, id, dependencies, false);
-        let all = edits::append_ports(more, count + wanted, id, provisions, true);
+        let more = append_ports(declarations, count, id, dependencies, false);
+        let all = append_ports(more, count + wanted, id, provisions, true);
         self.declarations = all;
         self.declaration_count = count + wanted + offered;
         let mut nodes = self.nodes;

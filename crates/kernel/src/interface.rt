@@ -6,6 +6,7 @@ ghost use Rattle.model.specs.Interface.{configureTests, releaseProvisionTests};
 ghost use Rattle.sizes.specs.Sizes.{sizes};
 use crate::Kernel;
 use crate::Outcome;
+use crate::ports::append_ports;
 use edits::Rule;
 use model::Answer;
 use model::Error;
@@ -95,7 +96,7 @@ impl Kernel {
             let kept = edits::kept_declarations(declarations, count, unread, rule);
             let rest = kept.declarations;
             let n = kept.count;
-            let all = edits::append_ports(rest, n, id, list, false);
+            let all = append_ports(rest, n, id, list, false);
             self.declarations = all;
             self.declaration_count = n + list.count;
         }

@@ -15,6 +15,7 @@ mod insertion;
 mod interface;
 mod lifecycle;
 mod observers;
+mod ports;
 mod resolution;
 mod sound;
 

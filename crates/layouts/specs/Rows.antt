@@ -1,4 +1,4 @@
--- What a row of document 01's table answers of a kernel, sound or not.
+-- What a row of the rules' table answers of a kernel, sound or not.
 use Prim.Native.Nat.{ℕ}
 use Rattle.model.specs.declared.Answer.{Answer}
 use Rattle.model.specs.declared.Error.{Error}

@@ -1,4 +1,4 @@
--- The answer enums of the code: what each of their cases says in document 01's words and numbers.
+-- The answer enums of the code: what each of their cases says in the rules' words and numbers.
 use mathlib.Core.Option.{Option, none, some}
 use Prim.Native.Nat.{ℕ}
 use Rattle.model.specs.declared.Answer.{Answer}

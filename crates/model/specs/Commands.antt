@@ -33,7 +33,7 @@ pub data Command : Type 0 where
   compactBindings : Command
   compactDeclarations : Command
 
--- its row of document 01's table, after the entry test (a kernel that is not sound refuses every command, Kernels.antt)
+-- its row of the rules' table, after the entry test (a kernel that is not sound refuses every command, Kernels.antt)
 abbrev pub tests : Sizes → Tables → Command → Tests
 tests S T (Command.insert q ds ps) = insertTests S T q ds ps
 tests S T (Command.declareProvision id p) = declareProvisionTests S T id p

@@ -1,4 +1,4 @@
--- The iteration rule: demand 3 in the words of document 01, over the sizes.
+-- The iteration rule: demand 3 in the words of docs/RULES.md, over the sizes.
 use mathlib.Core.Path.{_≡_}
 use mathlib.Core.Bool.{Bool, _&&_, cond, false, true}
 use mathlib.Core.List.{List, [], _∷_}

@@ -1,4 +1,4 @@
--- What a kernel answers, sound or not: the place 'entry' of document 01's table, over the sizes; and the kernels that lists of commands reach.
+-- What a kernel answers, sound or not: the place 'entry' of the rules' table, over the sizes; and the kernels that lists of commands reach.
 use mathlib.Core.Path.{_≡_}
 use mathlib.Core.Bool.{cond}
 use mathlib.Core.List.{List, [], _∷_}

@@ -49,7 +49,7 @@ layoutTests S k =
     ∷ all isBlankLink (drop (k .linkCount) (k .links))
     ∷ []
 
--- document 01's soundness of a kernel: counts, blanks and the six points
+-- the rules' soundness of a kernel: counts, blanks and the six points
 unfoldable pub soundKernel : Sizes → Layout → Bool
 soundKernel S k = conj (layoutTests S k) && wf (tablesOf k)
 

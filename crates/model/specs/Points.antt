@@ -1,4 +1,4 @@
--- Soundness as document 01 words it, over places: the six points of the tables, and the counts and blanks of a kernel. Theorems/Points.antt: they are the tests `wf` and `soundKernel`.
+-- Soundness as docs/RULES.md words it, over places: the six points of the tables, and the counts and blanks of a kernel. Theorems/Points.antt: they are the tests `wf` and `soundKernel`.
 use mathlib.Core.Path.{_≡_}
 use mathlib.Core.Bool.{false, true}
 use mathlib.Core.List.{List}

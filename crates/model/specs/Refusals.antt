@@ -1,11 +1,11 @@
--- Refusals: document 01's numbers, what a command replies, and tests in order of which the first that applies refuses.
+-- Refusals: the rules' numbers, what a command replies, and tests in order of which the first that applies refuses.
 use mathlib.Core.Bool.{Bool, cond, false, true}
 use mathlib.Core.List.{List, [], _∷_}
 use mathlib.Core.Option.{Option, none, some}
 use Prim.Native.Nat.{ℕ}
 use Rattle.model.specs.declared.Error.{Error}
 
--- document 01's number of each refusal
+-- the rules' number of each refusal
 abbrev pub number : Error → ℕ
 number Error.Unknown = 1
 number Error.InvalidState = 2
@@ -39,7 +39,7 @@ replyNumber (Reply.issued id) = 0
 replyNumber (Reply.removed n) = 0
 replyNumber (Reply.refused e) = number e
 
--- a row of document 01's table: tests, each with its refusal, in order
+-- a row of the rules' table: tests, each with its refusal, in order
 abbrev pub Tests : Type 0
 Tests = List (Bool × Error)
 

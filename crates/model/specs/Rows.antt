@@ -1,4 +1,4 @@
--- The rows of document 01's table, by what they test of the component's node, and the node that each command leaves.
+-- The rows of the rules' table, by what they test of the component's node, and the node that each command leaves.
 use mathlib.Core.List.{[], _∷_}
 use Rattle.model.specs.declared.records.Node.{Node}
 use Rattle.model.specs.declared.Phase.{Phase}

@@ -1,4 +1,4 @@
--- The fixed sizes of document 01: of a kernel's tables, of an operand list, of a generation.
+-- The fixed sizes of the rules: of a kernel's tables, of an operand list, of a generation.
 use Prim.Native.Nat.{ℕ}
 
 -- how many nodes, declarations and links a kernel holds
@@ -7,7 +7,7 @@ pub record Sizes : Type 0 where
   pub declarations : ℕ
   pub links : ℕ
 
--- the kernel of document 01
+-- the kernel of the rules
 abbrev pub controller : Sizes
 controller = record { identities = 64; declarations = 256; links = 512 }
 

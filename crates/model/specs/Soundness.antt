@@ -1,4 +1,4 @@
--- Soundness of the tables: document 01's six points (wf of lib.rs), and the sizes.
+-- Soundness of the tables: the rules' six points (wf of lib.rs), and the sizes.
 use mathlib.Core.Bool.{Bool, Bool·beq, _&&_, false, not, true}
 use mathlib.Core.List.{List, [], _∷_}
 use Prim.Native.Nat.{ℕ}

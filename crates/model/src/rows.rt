@@ -1,5 +1,5 @@
 // What commands share: the rows by what they test of the component's node, and the transitions of a node.
-// The rows of document 01's table, by what they test of the component's node.
+// The rows of the rules' table, by what they test of the component's node.
 pub enum Row {
     Present,
     Declare,

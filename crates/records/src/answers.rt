@@ -1,4 +1,4 @@
-// The answers in document 01's numbers.
+// The answers in the rules' numbers.
 ghost use mathlib.Core.Path.{_≡_};
 ghost use Rattle.model.specs.Answers.{answerNumber, insertAnswerNumber};
 ghost use Rattle.model.specs.Refusals.{number};
@@ -6,7 +6,7 @@ use model::Answer;
 use model::Error;
 use model::InsertAnswer;
 
-// Document 01's number of a refusal.
+// The rules' number of a refusal.
 pub fn error_number(error: Error) -> u8
     ensures { λ r. ⌜ r ≡ number error ⌝ }
 {

@@ -8,11 +8,11 @@ ghost use Rattle.model.specs.Soundness.{parentOk};
 ghost use Rattle.results.specs.Results.{identities};
 ghost use Rattle.scans.specs.Flags.{flagsOf};
 ghost use Rattle.sizes.specs.Sizes.{IDENTITIES};
-use results::Identities;
 use crate::NodeFlags;
 use loops::at_most;
 use model::Node;
 use model::Parent;
+use results::Identities;
 use sizes::IDENTITIES;
 
 // Which nodes are present, and which are present and Active.

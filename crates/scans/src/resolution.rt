@@ -9,8 +9,6 @@ ghost use Rattle.model.specs.Resolution.{resolve, dependencyPorts, bindPorts, c
 ghost use Rattle.loops.specs.Columns.{declarationsOf, flag};
 ghost use Rattle.results.specs.Results.{targetBindings, committedBindings};
 ghost use Rattle.sizes.specs.Sizes.{DECLARATIONS, IDENTITIES};
-use results::CommittedBindings;
-use results::TargetBindings;
 use crate::columns::declaration_columns;
 use crate::limits::flag_at;
 use crate::nodes::node_flags;
@@ -20,6 +18,8 @@ use model::Link;
 use model::Node;
 use model::Port;
 use model::Resolution;
+use results::CommittedBindings;
+use results::TargetBindings;
 use sizes::DECLARATIONS;
 use sizes::IDENTITIES;
 use sizes::LINKS;

@@ -10,7 +10,7 @@ use loops::bucket_of;
 use sizes::DECLARATIONS;
 
 // Chains the declarations below the count by the bucket of their port. In a chain c stands for entry c - 1, and 0 for none; each leads to an earlier one.
-pub fn chain_ports(
+pub(crate) fn chain_ports(
     key: &[u64; DECLARATIONS],
     realm: &[u64; DECLARATIONS],
     count: usize,
@@ -32,7 +32,7 @@ pub fn chain_ports(
 }
 
 // Chains the declarations below the count by the bucket of their owner and port.
-pub fn chain_declarations(
+pub(crate) fn chain_declarations(
     owner: &[usize; DECLARATIONS],
     key: &[u64; DECLARATIONS],
     realm: &[u64; DECLARATIONS],

@@ -1,15 +1,24 @@
 // The entry test of every command and check: whether a kernel's tables are sound, in one pass over each.
 ghost use mathlib.Core.Path.{_≡_};
+ghost use mathlib.Core.Bool.{Bool, false};
+ghost use mathlib.Core.List.{List};
+ghost use Prim.Native.Nat.{ℕ, _<_};
+ghost use lib.ListN.{getD, take};
+ghost use Rattle.model.specs.Lists.{all, any};
 ghost use Rattle.model.specs.Layouts.{soundKernel};
-ghost use Rattle.sizes.specs.Sizes.{sizes};
+ghost use Rattle.model.specs.Soundness.{isCovered};
+ghost use Rattle.loops.specs.Columns.{declarationAt, declarationsOf, flag};
+ghost use Rattle.loops.specs.Marks.{meets};
+ghost use Rattle.sizes.specs.Sizes.{DECLARATIONS, IDENTITIES, sizes};
 use crate::nodes::nodes_ok;
-use crate::points::covered;
 use crate::points::links_ok;
 use crate::points::one_owner;
 use crate::points::owners_issued;
+use loops::at_most;
 use model::Declaration;
 use model::Link;
 use model::Node;
+use scans::flag_at;
 use sizes::DECLARATIONS;
 use sizes::IDENTITIES;
 use sizes::LINKS;
@@ -71,4 +80,31 @@ pub fn tables_sound(
         return false;
     }
     covered(&owner, &provides, d, &installed, &met)
+}
+
+// Whether each dependency of an installed owner is met.
+fn covered(
+    owner: &[usize; DECLARATIONS],
+    provides: &[bool; DECLARATIONS],
+    count: usize,
+    installed: &[bool; IDENTITIES],
+    met: &[bool; DECLARATIONS],
+) -> bool
+    ensures { λ r. ⌜
+        ((key realm : List ℕ) (ls : List Link) → ((i : ℕ) → i < count → i < DECLARATIONS → getD (now (met .entry)) i false
+        ≡ any (meets (declarationAt (now (owner .entry)) key realm (now (provides .entry)) i)) ls)
+        → r ≡ all (isCovered (flag IDENTITIES (now (installed .entry))) ls) (take count (declarationsOf DECLARATIONS (now (owner .entry)) key realm (now (provides .entry)))))
+        ⌝ }
+{
+    let end = at_most(count, DECLARATIONS);
+    let mut i = 0;
+    while i < end {
+        let o = owner[i];
+        let here = flag_at(installed, o);
+        if !provides[i] & here & !met[i] {
+            return false;
+        }
+        i += 1;
+    }
+    true
 }

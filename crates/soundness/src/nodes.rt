@@ -14,7 +14,7 @@ use sizes::IDENTITIES;
 
 // Whether each node below the count is consistent, and a present one's parent present and smaller, and the nodes past it are blank.
 // Where so, it has written which nodes are present, installed and serving: a blank one is none of them.
-pub fn nodes_ok(
+pub(crate) fn nodes_ok(
     nodes: [Node; IDENTITIES],
     count: usize,
     present: &mut [bool; IDENTITIES],

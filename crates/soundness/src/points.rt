@@ -6,7 +6,7 @@ ghost use Prim.Native.Nat.{ℕ, _<_};
 ghost use lib.ListN.{length, take, drop, getD, replicate};
 ghost use Rattle.model.specs.Lists.{all, any};
 ghost use Rattle.model.specs.Records.{isBlankLink};
-ghost use Rattle.model.specs.Soundness.{hasOwner, sameOwner, isDeclaration, linkOk, ordered, isCovered};
+ghost use Rattle.model.specs.Soundness.{hasOwner, sameOwner, isDeclaration, linkOk, ordered};
 ghost use Rattle.loops.specs.Columns.{declarationAt, declarationsOf, flag};
 ghost use Rattle.loops.specs.Marks.{meets, marked, unmarked};
 ghost use Rattle.loops.specs.Chains.{bucketAt, Chained};
@@ -25,7 +25,7 @@ use sizes::IDENTITIES;
 use sizes::LINKS;
 
 // Whether each owner below the count is an issued identity.
-pub fn owners_issued(owner: &[usize; DECLARATIONS], count: usize, issued: usize) -> bool
+pub(crate) fn owners_issued(owner: &[usize; DECLARATIONS], count: usize, issued: usize) -> bool
     ensures { λ r. ⌜ ((key realm : List ℕ) (provides : List Bool) → r ≡ all (hasOwner issued) (take count (declarationsOf DECLARATIONS (now (owner .entry)) key realm provides))) ⌝ }
 {
     let end = at_most(count, DECLARATIONS);
@@ -40,7 +40,7 @@ pub fn owners_issued(owner: &[usize; DECLARATIONS], count: usize, issued: usize)
 }
 
 // Whether this declaration and each of the columns, if both are provisions of one port by present owners, have one owner: only its port's chain is read.
-pub fn one_provider(
+fn one_provider(
     owner: &[usize; DECLARATIONS],
     key: &[u64; DECLARATIONS],
     realm: &[u64; DECLARATIONS],
@@ -80,7 +80,7 @@ pub fn one_provider(
 }
 
 // Whether provisions of one port by present owners have one owner.
-pub fn one_owner(
+pub(crate) fn one_owner(
     owner: &[usize; DECLARATIONS],
     key: &[u64; DECLARATIONS],
     realm: &[u64; DECLARATIONS],
@@ -114,7 +114,7 @@ pub fn one_owner(
 }
 
 // Whether the columns have a declaration of this owner and port, a provision or a dependency: only their chain is read.
-pub fn declared(
+fn declared(
     owner: &[usize; DECLARATIONS],
     key: &[u64; DECLARATIONS],
     realm: &[u64; DECLARATIONS],
@@ -143,7 +143,7 @@ pub fn declared(
 }
 
 // Whether the columns have a dependency of this owner and port, each of which is marked as met: only their chain is read.
-pub fn meet(
+fn meet(
     owner: &[usize; DECLARATIONS],
     key: &[u64; DECLARATIONS],
     realm: &[u64; DECLARATIONS],
@@ -180,7 +180,7 @@ pub fn meet(
 
 // Whether a live link's ends are installed, its provider serving, both declared its port, and its consumer is no provider of a live link so far:
 // its provider is marked as seen, and its consumer's dependencies on the port as met.
-pub fn link_ok(
+fn link_ok(
     owner: &[usize; DECLARATIONS],
     key: &[u64; DECLARATIONS],
     realm: &[u64; DECLARATIONS],
@@ -243,7 +243,7 @@ pub fn link_ok(
 }
 
 // Whether each link below the count is ok and the links past it are blank; the dependencies that a live link meets are marked.
-pub fn links_ok(
+pub(crate) fn links_ok(
     links: [Link; LINKS],
     linked: usize,
     owner: &[usize; DECLARATIONS],
@@ -298,31 +298,4 @@ pub fn links_ok(
         i += 1;
     }
     records::is_blank_link(rest)
-}
-
-// Whether each dependency of an installed owner is met.
-pub fn covered(
-    owner: &[usize; DECLARATIONS],
-    provides: &[bool; DECLARATIONS],
-    count: usize,
-    installed: &[bool; IDENTITIES],
-    met: &[bool; DECLARATIONS],
-) -> bool
-    ensures { λ r. ⌜
-        ((key realm : List ℕ) (ls : List Link) → ((i : ℕ) → i < count → i < DECLARATIONS → getD (now (met .entry)) i false
-        ≡ any (meets (declarationAt (now (owner .entry)) key realm (now (provides .entry)) i)) ls)
-        → r ≡ all (isCovered (flag IDENTITIES (now (installed .entry))) ls) (take count (declarationsOf DECLARATIONS (now (owner .entry)) key realm (now (provides .entry)))))
-        ⌝ }
-{
-    let end = at_most(count, DECLARATIONS);
-    let mut i = 0;
-    while i < end {
-        let o = owner[i];
-        let here = flag_at(installed, o);
-        if !provides[i] & here & !met[i] {
-            return false;
-        }
-        i += 1;
-    }
-    true
 }

@@ -26,7 +26,8 @@ targets-agree none (some cs) = (λ w. clash true refl (sym (w .0)), λ e. never 
 targets-agree (some bs) none = (λ w. clash true refl (w .0), λ e. never bs (sym e))
 targets-agree (some bs) (some cs) = (λ w. ap some (agree-exactly DECLARATIONS DECLARATIONS bs cs .0 (w .1)), λ e. (refl, agree-exactly DECLARATIONS DECLARATIONS bs cs .1 (some-same e)))
 
-committed-agrees : (o : Option (List Binding)) (cs : List Binding) → let t = targetBindings o in let c = committedBindings cs in ((t .there ≡ true) × Agree (t .bindings) (t .count) (c .bindings) (c .count)) ↔ (o ≡ some cs)
+committed-agrees : (o : Option (List Binding)) (cs : List Binding) →
+    let t = targetBindings o in let c = committedBindings cs in ((t .there ≡ true) × Agree (t .bindings) (t .count) (c .bindings) (c .count)) ↔ (o ≡ some cs)
 committed-agrees none cs = (λ w. clash true refl (sym (w .0)), λ e. never cs e)
 committed-agrees (some bs) cs = (λ w. ap some (agree-exactly DECLARATIONS LINKS bs cs .0 (w .1)), λ e. (refl, agree-exactly DECLARATIONS LINKS bs cs .1 (some-same e)))
 

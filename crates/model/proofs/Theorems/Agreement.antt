@@ -12,9 +12,11 @@ agree-exactly n m bs cs = (to, of)
     to : Agree (padded n blankBinding bs) (length bs) (padded m blankBinding cs) (length cs) → bs ≡ cs
     to (e, f) = ext-getD blankBinding bs cs e (λ i l. sym (getD-padded n blankBinding bs i) ∙ same-binding _ _ (f i l) ∙ getD-padded m blankBinding cs i)
 
+    place : (i : ℕ) → bs ≡ cs → getD (padded n blankBinding bs) i blankBinding ≡ getD (padded m blankBinding cs) i blankBinding
+    place i e = getD-padded n blankBinding bs i ∙ ap (λ (xs : List Binding). getD xs i blankBinding) e ∙ sym (getD-padded m blankBinding cs i)
+
     of : bs ≡ cs → Agree (padded n blankBinding bs) (length bs) (padded m blankBinding cs) (length cs)
-    of e = (ap length e, λ i l. let q : getD (padded n blankBinding bs) i blankBinding ≡ getD (padded m blankBinding cs) i blankBinding = getD-padded n blankBinding bs i ∙ ap (λ (xs : List Binding). getD xs i blankBinding) e ∙ sym (getD-padded m blankBinding cs i) in
-        (ap (λ (b : Binding). b .key) q, ap (λ (b : Binding). b .realm) q, ap (λ (b : Binding). b .provider) q))
+    of e = (ap length e, λ i l. (ap (λ (b : Binding). b .key) (place i e), ap (λ (b : Binding). b .realm) (place i e), ap (λ (b : Binding). b .provider) (place i e)))
 
 module _ (S : Sizes) (k : Layout) (id : ℕ) where
   pub committed-within : length (committedOf S k id) ≤ S .links

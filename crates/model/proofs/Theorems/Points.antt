@@ -1,4 +1,4 @@
--- The test of soundness is document 01's six points, both ways; and that of a kernel its counts, its blanks and these.
+-- The test of soundness is the rules' six points, both ways; and that of a kernel its counts, its blanks and these.
 use Rattle.model.proofs.Logic.{Bool, List, List·Memᴰ, [], _&&_, _<_, _↔_, _∙_, _∷_, _≡_, arith, decLt, drop, false, getD, length, lt-ltb, ltb, ltb-true, not, refl, suc, sym, true, zero, ℕ}
 use Rattle.model.specs.{Layouts.Layout, Layouts.soundKernel, Layouts.tablesOf, Lifecycle.phaseAt, Lists.all, Points.At, Points.BlankPast, Points.Installed, Points.KernelPoints, Points.Points, Points.Present, Points.Restoring, Points.Within, Records.bindingIn, Records.blankDeclaration, Records.blankLink, Records.blankNode, Records.consumerIn, Records.isBlankDeclaration, Records.isBlankLink, Records.isBlankNode, Records.isInactive, Records.parentIn, Records.providerIn, Sizes.Sizes, Soundness.apart, Soundness.fits, Soundness.parentOk, Soundness.safetyWf, Soundness.sound, Soundness.wf, Tables.Tables, Tables.nodeAt, Tables.notInactive, Tables.present, declared.Parent.Parent, declared.Phase.Phase, declared.records.Link.Link, declared.records.Node.Node}
 use Rattle.model.proofs.{Laws.Blanks.blank-declaration, Laws.Blanks.blank-link, Laws.Blanks.blank-node, Laws.Booleans.and-i, Laws.Booleans.and-l, Laws.Booleans.and-r, Laws.Booleans.clash, Laws.Booleans.not-t, Laws.Facts.Covered, Laws.Facts.Fits, Laws.Facts.LiveOk, Laws.Facts.NodeOk, Laws.Facts.Safe, Laws.Facts.blank-ok, Laws.Facts.covered-of, Laws.Facts.fits-of, Laws.Facts.of-covered, Laws.Facts.of-fits, Laws.Facts.of-safe, Laws.Facts.safe-of, Laws.Lists.at-in, Laws.Lists.at-onward, Laws.Lists.getD-any, Laws.Lists.in-at, Laws.Lists.onward-at, Laws.Nodes.past-blank, Laws.Nodes.present-lt, Laws.Order.apart-of, Laws.Order.of-apart, Laws.Phases.inactive-is, Laws.Phases.unloading-is, Theorems.Layouts.Laid, Theorems.Layouts.laid-of, Theorems.Layouts.of-laid}

@@ -132,7 +132,8 @@ accepted : (S : Sizes) (T : Tables) (c : Command) → Passed (tests S T c) → s
 unfolding step settle
 accepted S T c p = rw (of-passed (tests S T c) p)
 
-on-tables : (S : Sizes) → S .declarations ≤ S .links → (cs : List Command) (id : ℕ) → NoSpace S (run S cs) id → (step S ((step S (run S cs) Command.compactBindings) .tables) (Command.begin id)) .reply ≡ Reply.done
+on-tables : (S : Sizes) → S .declarations ≤ S .links → (cs : List Command) (id : ℕ) → NoSpace S (run S cs) id →
+    (step S ((step S (run S cs) Command.compactBindings) .tables) (Command.begin id)) .reply ≡ Reply.done
 on-tables S w cs id r =
     let T : Tables = run S cs in
     let c : (step S T Command.compactBindings) .tables ≡ bindingsCompacted T = ap (λ (o : Step). o .tables) (accepted S T Command.compactBindings tt) in

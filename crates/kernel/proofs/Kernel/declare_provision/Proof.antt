@@ -74,7 +74,8 @@ returns-3 c =
     let g = r .before .before in
     let d = e (n g) in
     let row = rest (P d) _ ∙ skip _ _ _ (other g (r .before .if2 .left)) ∙ skip _ _ _ (full g (lt-leb _ _ (r .if3 .left))) ∙ of-passed [] tt in
-    answer-is (s d .args .self) (command (s d)) (d .enum-told .given .1) (hands-accepted (P d .kernel) (command (s d)) row _ (declared-now (P d .kernel) (s d .args .id) (s d .args .port) (new g) (r .if3 .left) (c .provision .ensures)))
+    let done = hands-accepted (P d .kernel) (command (s d)) row _ (declared-now (P d .kernel) (s d .args .id) (s d .args .port) (new g) (r .if3 .left) (c .provision .ensures)) in
+    answer-is (s d .args .self) (command (s d)) (d .enum-told .given .1) done
 
 returns-4 : tie.Need-returns-4
 returns-4 c =
@@ -82,7 +83,8 @@ returns-4 c =
     let d = e f in
     let mine = provides f (not-false _ (c .if1 .left)) in
     let row = rest (P d) _ ∙ skip _ _ _ (owned _ _ mine) ∙ skip _ _ _ (owned _ _ mine) ∙ of-passed [] tt in
-    answer-is (s d .args .self) (command (s d)) (d .enum-told .given .1) (hands-accepted (P d .kernel) (command (s d)) row _ (declared-before (P d .kernel) (s d .args .id) (s d .args .port) mine))
+    let done = hands-accepted (P d .kernel) (command (s d)) row _ (declared-before (P d .kernel) (s d .args .id) (s d .args .port) mine) in
+    answer-is (s d .args .self) (command (s d)) (d .enum-told .given .1) done
 
 returns-5 : tie.Need-returns-5
 returns-5 c =

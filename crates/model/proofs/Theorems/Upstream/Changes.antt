@@ -134,16 +134,20 @@ module _ (S : Sizes) (T : Tables) (q : Parent) (ds ps : PortList) where
           (ap (λ (d : Declaration). d .provides) e, Memᴰ·cast (ap (λ (d : Declaration). declaredPort d) e) n)
 
       pub inserted-dependencies : List·Memᴰ (dependency new p) ((step S T inserting) .tables .declarations) ↔ List·Memᴰ p (listed ds)
-      inserted-dependencies = (λ m. go (List·Memᴰ·append-cases (map (dependency new) (listed ds)) (of-list false m)),
-          λ m. rw (inserted-declarations h) (Memᴰ·append-right (T .declarations) (Memᴰ·append-left (map (provision new) (listed ps)) (map-in (dependency new) m))))
+      inserted-dependencies = (
+        λ m. go (List·Memᴰ·append-cases (map (dependency new) (listed ds)) (of-list false m)),
+        λ m. rw (inserted-declarations h) (Memᴰ·append-right (T .declarations) (Memᴰ·append-left (map (provision new) (listed ps)) (map-in (dependency new) m))),
+      )
         where
           go : List·Memᴰ (dependency new p) (map (dependency new) (listed ds)) ⊎ List·Memᴰ (dependency new p) (map (provision new) (listed ps)) → List·Memᴰ p (listed ds)
           go (inl m) = (listed-in (listed ds) false false m) .1
           go (inr m) = clash true refl (sym ((listed-in (listed ps) false true m) .0))
 
       pub inserted-provisions : List·Memᴰ (provision new p) ((step S T inserting) .tables .declarations) ↔ List·Memᴰ p (listed ps)
-      inserted-provisions = (λ m. go (List·Memᴰ·append-cases (map (dependency new) (listed ds)) (of-list true m)),
-          λ m. rw (inserted-declarations h) (Memᴰ·append-right (T .declarations) (Memᴰ·append-right (map (dependency new) (listed ds)) (map-in (provision new) m))))
+      inserted-provisions = (
+        λ m. go (List·Memᴰ·append-cases (map (dependency new) (listed ds)) (of-list true m)),
+        λ m. rw (inserted-declarations h) (Memᴰ·append-right (T .declarations) (Memᴰ·append-right (map (dependency new) (listed ds)) (map-in (provision new) m))),
+      )
         where
           go : List·Memᴰ (provision new p) (map (dependency new) (listed ds)) ⊎ List·Memᴰ (provision new p) (map (provision new) (listed ps)) → List·Memᴰ p (listed ps)
           go (inl m) = clash true refl ((listed-in (listed ds) true false m) .0)

@@ -1,9 +1,9 @@
--- `edits::append_ports` meets its contract. The array holds the declarations below the count and those for the first i ports, then blanks.
+-- `kernel::ports::append_ports` meets its contract. The array holds the declarations below the count and those for the first i ports, then blanks.
 use Rattle.model.proofs.Logic.{Bool, List, _++_, _-_, _∙_, _≡_, _≤_, ap, append-nil, arith, length, length-map, length-take-le, map, needs, sym, take, ℕ}
 use Rattle.model.specs.{Lists.padded, Records.blankDeclaration, Records.blankPort, Records.declarationOf, declared.Port.Port, declared.records.Declaration.Declaration}
 use Rattle.loops.proofs.{Laws.Edit.appended-next}
-use Rattle.edits.proofs.{append_ports.Statement.statement}
-use Rattle.edits.proofs.append_ports.Tie as tie
+use Rattle.kernel.proofs.{ports.append_ports.Statement.statement}
+use Rattle.kernel.proofs.ports.append_ports.Tie as tie
 use Rattle.sizes.specs.{Sizes.DECLARATIONS}
 
 -- the declarations below the count, and those for the first i ports

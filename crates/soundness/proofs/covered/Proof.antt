@@ -1,10 +1,10 @@
--- `soundness::points::covered` meets its contract. What is left of the columns answers as the whole does, whatever the ports are and whichever links meet the dependencies.
+-- `soundness::covered` meets its contract. What is left of the columns answers as the whole does, whatever the ports are and whichever links meet the dependencies.
 use Rattle.model.proofs.Logic.{Bool, List, _&&_, _-_, _<_, _∙_, _≡_, ap, arith, false, getD, needs, not, sym, take, ℕ}
 use Rattle.model.specs.{Lists.all, Lists.any, Soundness.isCovered, declared.records.Link.Link}
 use Rattle.loops.proofs.{Laws.Marking.met-covered, Laws.Scanning.Testing, Laws.Scanning.test-end, Laws.Scanning.test-hit, Laws.Scanning.test-on, Laws.Scanning.test-start}
 use Rattle.loops.specs.{Columns.declarationAt, Columns.declarationsOf, Columns.flag, Columns.rowsFrom, Marks.meets}
-use Rattle.soundness.proofs.{points.covered.Statement.statement}
-use Rattle.soundness.proofs.points.covered.Tie as tie
+use Rattle.soundness.proofs.{covered.Statement.statement}
+use Rattle.soundness.proofs.covered.Tie as tie
 use Rattle.sizes.specs.{Sizes.DECLARATIONS, Sizes.IDENTITIES}
 
 -- the marks below the count tell what these links meet

@@ -1,0 +1,34 @@
+// Declarations for the ports of a list.
+ghost use mathlib.Core.Path.{_≡_};
+ghost use mathlib.Core.List.{_++_, map};
+ghost use Prim.Native.Nat.{_+_, _≤_};
+ghost use lib.ListN.{take};
+ghost use Rattle.model.specs.Interface.{listed};
+ghost use Rattle.model.specs.Lists.{padded};
+ghost use Rattle.model.specs.Records.{blankDeclaration, declarationOf};
+ghost use Rattle.sizes.specs.Sizes.{DECLARATIONS};
+use model::Declaration;
+use model::PortList;
+use sizes::DECLARATIONS;
+
+// The declarations with those of an owner for a list of ports behind them.
+pub(crate) fn append_ports(
+    mut declarations: [Declaration; DECLARATIONS],
+    count: usize,
+    owner: usize,
+    list: PortList,
+    provides: bool,
+) -> [Declaration; DECLARATIONS]
+    requires { ⌜ (list .count ≤ 32) × (count + list .count ≤ DECLARATIONS) × (declarations ≡ padded DECLARATIONS blankDeclaration (take count declarations)) ⌝ }
+    ensures { λ r. ⌜ r ≡ padded DECLARATIONS blankDeclaration (take count declarations ++ map (declarationOf owner provides) (listed list)) ⌝ }
+{
+    let more = list.count;
+    let ports = list.ports;
+    let mut i = 0;
+    while i < more {
+        let p = ports[i];
+        declarations[count + i] = records::declaration_of(owner, provides, p);
+        i += 1;
+    }
+    declarations
+}
