@@ -1,4 +1,12 @@
 // The player: the kernel, the two pending lists and the place in the log.
+ghost use lib.ListN.{length};
+ghost use mathlib.Core.List.{[]};
+ghost use mathlib.Core.Path.{_≡_};
+ghost use Prim.Native.Nat.{_≤_};
+ghost use Rattle.kernel.specs.Fields.{kernelOf};
+ghost use Rattle.model.specs.Interface.{portList};
+ghost use Rattle.model.specs.Kernels.{emptyKernel};
+ghost use Rattle.sizes.specs.Sizes.{sizes};
 use crate::log;
 use kernel::Kernel;
 use model::InsertAnswer;
@@ -16,7 +24,9 @@ pub struct Player {
     pub detail: u64,
 }
 
-fn empty_list() -> PortList {
+fn empty_list() -> PortList
+    ensures { λ r. ⌜ r ≡ portList [] ⌝ }
+{
     let port = records::blank_port();
     let ports = [port; 32];
     PortList {
@@ -26,7 +36,10 @@ fn empty_list() -> PortList {
 }
 
 // The empty kernel, before the log's first byte.
-pub fn start() -> Player {
+pub fn start() -> Player
+    ensures { λ r. ⌜ (r .kernel ≡ kernelOf (emptyKernel sizes)) × (r .at ≡ 0) × (r .answered ≡ 0) ⌝ }
+    ensures { λ r. ⌜ (r .dependencies ≡ portList []) × (r .provisions ≡ portList []) × (r .detail ≡ 0) ⌝ }
+{
     let kernel = Kernel::new();
     let list = empty_list();
     Player {
@@ -64,7 +77,9 @@ fn issued(answer: InsertAnswer) -> u64 {
 // Plays on until the log ends, the answers are full, a byte outside 01 to 10 (11) or cut operands (12). Each command has an arm
 // of its own, so that the compiler sees which parts of the kernel it hands back unchanged and copies only the others; insert and begin
 // change more than they keep, and hand an unchanged kernel back where they refuse.
-pub fn play(player: Player, log: &[u8], answers: &mut [u8]) -> Player {
+pub fn play(player: Player, log: &[u8], answers: &mut [u8]) -> Player
+    ensures { λ r. ⌜ (r .answered ≤ length (now (answers .entry))) × (player .at ≤ length (now (log .entry)) → r .at ≤ length (now (log .entry))) ⌝ }
+{
     let mut kernel = player.kernel;
     let mut dependencies = player.dependencies;
     let mut provisions = player.provisions;

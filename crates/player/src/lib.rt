@@ -1,4 +1,7 @@
 // Logs of commands played on the kernel, and the two functions exported for Rust.
+ghost use lib.ListN.{length};
+ghost use Prim.Native.Nat.{_≤_};
+
 mod commands;
 mod log;
 mod observe;
@@ -11,7 +14,9 @@ pub use commands::start;
 
 // Plays the log from the empty kernel; answers[i] is the i-th answer. Gives how many were written.
 #[no_mangle]
-pub extern "C" fn nobrighi_play(log: &[u8], answers: &mut [u8]) -> usize {
+pub extern "C" fn nobrighi_play(log: &[u8], answers: &mut [u8]) -> usize
+    ensures { λ r. ⌜ r ≤ length (now (answers .entry)) ⌝ }
+{
     let played = play(start(), log, answers);
     played.answered
 }
@@ -25,7 +30,9 @@ fn write_record(
     questions: &[u8],
     every: usize,
     index: usize,
-) -> usize {
+) -> usize
+    ensures { λ r. ⌜ r ≤ length (now (out .entry)) ⌝ }
+{
     let at = put::byte(out, at, answer);
     let at = tables::all(out, at, player);
     observe::asked(out, at, player, questions, every, index)
@@ -39,7 +46,9 @@ pub extern "C" fn nobrighi_record(
     questions: &[u8],
     every: usize,
     out: &mut [u8],
-) -> usize {
+) -> usize
+    ensures { λ r. ⌜ r ≤ length (now (out .entry)) ⌝ }
+{
     let mut player = start();
     let mut answer = [0u8; 1];
     let mut written = 0;

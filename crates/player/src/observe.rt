@@ -1,4 +1,6 @@
 // The part of a record that some commands have: each observer's answer to a question.
+ghost use lib.ListN.{length};
+ghost use Prim.Native.Nat.{_≤_};
 use crate::commands::Player;
 use crate::log;
 use crate::put;
@@ -16,34 +18,44 @@ use sizes::DECLARATIONS;
 use sizes::IDENTITIES;
 use sizes::LINKS;
 
-fn phase(out: &mut [u8], at: usize, answer: OptionPhase) -> usize {
+fn phase(out: &mut [u8], at: usize, answer: OptionPhase) -> usize
+    ensures { λ r. ⌜ r ≤ length (now (out .entry)) ⌝ }
+{
     match answer {
         OptionPhase::Some(phase) => put::byte(out, at, tables::phase_number(phase)),
         OptionPhase::None => put::byte(out, at, 255),
     }
 }
 
-fn generation(out: &mut [u8], at: usize, answer: OptionGeneration) -> usize {
+fn generation(out: &mut [u8], at: usize, answer: OptionGeneration) -> usize
+    ensures { λ r. ⌜ r ≤ length (now (out .entry)) ⌝ }
+{
     match answer {
         OptionGeneration::Some(generation) => put::some(out, at, generation),
         OptionGeneration::None => put::none(out, at),
     }
 }
 
-fn resolution(out: &mut [u8], at: usize, answer: Resolution) -> usize {
+fn resolution(out: &mut [u8], at: usize, answer: Resolution) -> usize
+    ensures { λ r. ⌜ r ≤ length (now (out .entry)) ⌝ }
+{
     match answer {
         Resolution::Provider(id) => put::some(out, at, id as u64),
         Resolution::None => put::none(out, at),
     }
 }
 
-fn binding(out: &mut [u8], at: usize, binding: Binding) -> usize {
+fn binding(out: &mut [u8], at: usize, binding: Binding) -> usize
+    ensures { λ r. ⌜ r ≤ length (now (out .entry)) ⌝ }
+{
     let at = put::word(out, at, binding.key);
     let at = put::word(out, at, binding.realm);
     put::word(out, at, binding.provider as u64)
 }
 
-fn identities(out: &mut [u8], at: usize, list: Identities) -> usize {
+fn identities(out: &mut [u8], at: usize, list: Identities) -> usize
+    ensures { λ r. ⌜ r ≤ length (now (out .entry)) ⌝ }
+{
     let ids = list.ids;
     let count = list.count;
     let end = loops::at_most(count, IDENTITIES);
@@ -56,7 +68,9 @@ fn identities(out: &mut [u8], at: usize, list: Identities) -> usize {
     at
 }
 
-fn target(out: &mut [u8], at: usize, answer: TargetBindings) -> usize {
+fn target(out: &mut [u8], at: usize, answer: TargetBindings) -> usize
+    ensures { λ r. ⌜ r ≤ length (now (out .entry)) ⌝ }
+{
     let bindings = answer.bindings;
     let count = answer.count;
     let end = loops::at_most(count, DECLARATIONS);
@@ -70,7 +84,9 @@ fn target(out: &mut [u8], at: usize, answer: TargetBindings) -> usize {
     at
 }
 
-fn committed(out: &mut [u8], at: usize, answer: CommittedBindings) -> usize {
+fn committed(out: &mut [u8], at: usize, answer: CommittedBindings) -> usize
+    ensures { λ r. ⌜ r ≤ length (now (out .entry)) ⌝ }
+{
     let bindings = answer.bindings;
     let count = answer.count;
     let end = loops::at_most(count, LINKS);
@@ -84,7 +100,9 @@ fn committed(out: &mut [u8], at: usize, answer: CommittedBindings) -> usize {
 }
 
 // The observers of one component.
-fn component(out: &mut [u8], at: usize, kernel: Kernel, id: usize) -> usize {
+fn component(out: &mut [u8], at: usize, kernel: Kernel, id: usize) -> usize
+    ensures { λ r. ⌜ r ≤ length (now (out .entry)) ⌝ }
+{
     let at = put::flag(out, at, kernel.sound());
     let at = put::flag(out, at, kernel.contains(id));
     let at = phase(out, at, kernel.phase(id));
@@ -93,28 +111,36 @@ fn component(out: &mut [u8], at: usize, kernel: Kernel, id: usize) -> usize {
     generation(out, at, kernel.episode_generation(id))
 }
 
-fn counts(out: &mut [u8], at: usize, kernel: Kernel) -> usize {
+fn counts(out: &mut [u8], at: usize, kernel: Kernel) -> usize
+    ensures { λ r. ⌜ r ≤ length (now (out .entry)) ⌝ }
+{
     let at = put::half(out, at, kernel.binding_records());
     let at = put::half(out, at, kernel.identity_slots());
     put::half(out, at, kernel.declaration_records())
 }
 
 // What is declared, and the lists of identities.
-fn declared(out: &mut [u8], at: usize, kernel: Kernel, id: usize, port: Port) -> usize {
+fn declared(out: &mut [u8], at: usize, kernel: Kernel, id: usize, port: Port) -> usize
+    ensures { λ r. ⌜ r ≤ length (now (out .entry)) ⌝ }
+{
     let at = put::flag(out, at, kernel.dependency_declared(id, port));
     let at = put::flag(out, at, kernel.provision_reserved(id, port));
     let at = identities(out, at, kernel.ids());
     identities(out, at, kernel.children(id))
 }
 
-fn bindings(out: &mut [u8], at: usize, kernel: Kernel, id: usize, port: Port) -> usize {
+fn bindings(out: &mut [u8], at: usize, kernel: Kernel, id: usize, port: Port) -> usize
+    ensures { λ r. ⌜ r ≤ length (now (out .entry)) ⌝ }
+{
     let at = resolution(out, at, kernel.resolve(port));
     let at = target(out, at, kernel.target(id));
     committed(out, at, kernel.committed(id))
 }
 
 // check_iteration of the identity, and check_insert of the pending lists under it, FF for no parent.
-fn checks(out: &mut [u8], at: usize, player: Player, question: &[u8]) -> usize {
+fn checks(out: &mut [u8], at: usize, player: Player, question: &[u8]) -> usize
+    ensures { λ r. ⌜ r ≤ length (now (out .entry)) ⌝ }
+{
     let kernel = player.kernel;
     let dependencies = player.dependencies;
     let provisions = player.provisions;
@@ -124,7 +150,9 @@ fn checks(out: &mut [u8], at: usize, player: Player, question: &[u8]) -> usize {
     put::byte(out, at, records::answer_number(insertion))
 }
 
-fn answers(out: &mut [u8], at: usize, player: Player, question: &[u8]) -> usize {
+fn answers(out: &mut [u8], at: usize, player: Player, question: &[u8]) -> usize
+    ensures { λ r. ⌜ r ≤ length (now (out .entry)) ⌝ }
+{
     let kernel = player.kernel;
     let id = log::identity(question);
     let port = log::port_at(question, 1);
@@ -144,7 +172,9 @@ pub fn asked(
     questions: &[u8],
     every: usize,
     index: usize,
-) -> usize {
+) -> usize
+    ensures { λ r. ⌜ r ≤ length (now (out .entry)) ⌝ }
+{
     if every == 0 {
         return put::byte(out, at, 0);
     }

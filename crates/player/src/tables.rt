@@ -1,4 +1,8 @@
 // The part of a record that every command has: its detail, the counts and the records below them.
+ghost use lib.ListN.{length};
+ghost use mathlib.Core.Path.{_≡_};
+ghost use Prim.Native.Nat.{_≤_};
+ghost use Rattle.player.specs.Log.{phaseNumber};
 use crate::commands::Player;
 use crate::put;
 use kernel::Kernel;
@@ -11,7 +15,9 @@ use sizes::DECLARATIONS;
 use sizes::IDENTITIES;
 use sizes::LINKS;
 
-pub fn phase_number(phase: Phase) -> u8 {
+pub fn phase_number(phase: Phase) -> u8
+    ensures { λ r. ⌜ r ≡ phaseNumber phase ⌝ }
+{
     match phase {
         Phase::Inactive => 0,
         Phase::Loading => 1,
@@ -20,14 +26,18 @@ pub fn phase_number(phase: Phase) -> u8 {
     }
 }
 
-fn parent(out: &mut [u8], at: usize, parent: Parent) -> usize {
+fn parent(out: &mut [u8], at: usize, parent: Parent) -> usize
+    ensures { λ r. ⌜ r ≤ length (now (out .entry)) ⌝ }
+{
     match parent {
         Parent::Of(id) => put::some(out, at, id as u64),
         Parent::None => put::none(out, at),
     }
 }
 
-fn node(out: &mut [u8], at: usize, node: Node) -> usize {
+fn node(out: &mut [u8], at: usize, node: Node) -> usize
+    ensures { λ r. ⌜ r ≤ length (now (out .entry)) ⌝ }
+{
     let phase = node.phase;
     let above = records::parent_in(node);
     let at = put::flag(out, at, node.present);
@@ -38,7 +48,9 @@ fn node(out: &mut [u8], at: usize, node: Node) -> usize {
     put::word(out, at, node.generation)
 }
 
-fn declaration(out: &mut [u8], at: usize, declaration: Declaration) -> usize {
+fn declaration(out: &mut [u8], at: usize, declaration: Declaration) -> usize
+    ensures { λ r. ⌜ r ≤ length (now (out .entry)) ⌝ }
+{
     let port = records::declared_port(declaration);
     let at = put::word(out, at, records::owner_in(declaration) as u64);
     let at = put::word(out, at, port.key);
@@ -46,7 +58,9 @@ fn declaration(out: &mut [u8], at: usize, declaration: Declaration) -> usize {
     put::flag(out, at, declaration.provides)
 }
 
-fn link(out: &mut [u8], at: usize, link: Link) -> usize {
+fn link(out: &mut [u8], at: usize, link: Link) -> usize
+    ensures { λ r. ⌜ r ≤ length (now (out .entry)) ⌝ }
+{
     let binding = records::binding_in(link);
     let at = put::word(out, at, records::consumer_in(link) as u64);
     let at = put::word(out, at, binding.key);
@@ -55,10 +69,12 @@ fn link(out: &mut [u8], at: usize, link: Link) -> usize {
     put::flag(out, at, link.live)
 }
 
-fn nodes(out: &mut [u8], at: usize, kernel: Kernel) -> usize {
+fn nodes(out: &mut [u8], at: usize, kernel: Kernel) -> usize
+    ensures { λ r. ⌜ r ≤ length (now (out .entry)) ⌝ }
+{
     let nodes = kernel.nodes;
     let end = loops::at_most(kernel.node_count, IDENTITIES);
-    let mut at = at;
+    let mut at = loops::at_most(at, out.len());
     let mut i = 0;
     while i < end {
         at = node(out, at, nodes[i]);
@@ -67,10 +83,12 @@ fn nodes(out: &mut [u8], at: usize, kernel: Kernel) -> usize {
     at
 }
 
-fn declarations(out: &mut [u8], at: usize, kernel: Kernel) -> usize {
+fn declarations(out: &mut [u8], at: usize, kernel: Kernel) -> usize
+    ensures { λ r. ⌜ r ≤ length (now (out .entry)) ⌝ }
+{
     let declarations = kernel.declarations;
     let end = loops::at_most(kernel.declaration_count, DECLARATIONS);
-    let mut at = at;
+    let mut at = loops::at_most(at, out.len());
     let mut i = 0;
     while i < end {
         at = declaration(out, at, declarations[i]);
@@ -79,10 +97,12 @@ fn declarations(out: &mut [u8], at: usize, kernel: Kernel) -> usize {
     at
 }
 
-fn links(out: &mut [u8], at: usize, kernel: Kernel) -> usize {
+fn links(out: &mut [u8], at: usize, kernel: Kernel) -> usize
+    ensures { λ r. ⌜ r ≤ length (now (out .entry)) ⌝ }
+{
     let links = kernel.links;
     let end = loops::at_most(kernel.link_count, LINKS);
-    let mut at = at;
+    let mut at = loops::at_most(at, out.len());
     let mut i = 0;
     while i < end {
         at = link(out, at, links[i]);
@@ -91,7 +111,9 @@ fn links(out: &mut [u8], at: usize, kernel: Kernel) -> usize {
     at
 }
 
-pub fn all(out: &mut [u8], at: usize, player: Player) -> usize {
+pub fn all(out: &mut [u8], at: usize, player: Player) -> usize
+    ensures { λ r. ⌜ r ≤ length (now (out .entry)) ⌝ }
+{
     let kernel = player.kernel;
     let at = put::word(out, at, player.detail);
     let at = put::half(out, at, kernel.node_count);

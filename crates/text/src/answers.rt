@@ -1,4 +1,6 @@
 // What commands, checks and observers answer, each part after a space.
+ghost use lib.ListN.{length};
+ghost use Prim.Native.Nat.{_≤_};
 use crate::bytes;
 use crate::field;
 use crate::number;
@@ -15,7 +17,9 @@ use sizes::IDENTITIES;
 use sizes::LINKS;
 
 // Of a command or a check: 0 is done, any other number a refusal.
-pub fn answer(out: &mut [u8], at: usize, number: u8) -> usize {
+pub fn answer(out: &mut [u8], at: usize, number: u8) -> usize
+    ensures { λ r. ⌜ r ≤ length (now (out .entry)) ⌝ }
+{
     if number == 0 {
         return bytes(out, at, b" done");
     }
@@ -23,21 +27,27 @@ pub fn answer(out: &mut [u8], at: usize, number: u8) -> usize {
     field(out, at, number as u64)
 }
 
-pub fn phase(out: &mut [u8], at: usize, answer: OptionPhase) -> usize {
+pub fn phase(out: &mut [u8], at: usize, answer: OptionPhase) -> usize
+    ensures { λ r. ⌜ r ≤ length (now (out .entry)) ⌝ }
+{
     match answer {
         OptionPhase::Some(now) => stored::phase(out, at, now),
         OptionPhase::None => bytes(out, at, b" none"),
     }
 }
 
-pub fn generation(out: &mut [u8], at: usize, answer: OptionGeneration) -> usize {
+pub fn generation(out: &mut [u8], at: usize, answer: OptionGeneration) -> usize
+    ensures { λ r. ⌜ r ≤ length (now (out .entry)) ⌝ }
+{
     match answer {
         OptionGeneration::Some(generation) => field(out, at, generation),
         OptionGeneration::None => bytes(out, at, b" none"),
     }
 }
 
-pub fn resolution(out: &mut [u8], at: usize, answer: Resolution) -> usize {
+pub fn resolution(out: &mut [u8], at: usize, answer: Resolution) -> usize
+    ensures { λ r. ⌜ r ≤ length (now (out .entry)) ⌝ }
+{
     match answer {
         Resolution::Provider(id) => field(out, at, id as u64),
         Resolution::None => bytes(out, at, b" none"),
@@ -45,7 +55,9 @@ pub fn resolution(out: &mut [u8], at: usize, answer: Resolution) -> usize {
 }
 
 // KEY/REALM@PROVIDER.
-fn binding(out: &mut [u8], at: usize, binding: Binding) -> usize {
+fn binding(out: &mut [u8], at: usize, binding: Binding) -> usize
+    ensures { λ r. ⌜ r ≤ length (now (out .entry)) ⌝ }
+{
     let at = field(out, at, binding.key);
     let at = bytes(out, at, b"/");
     let at = number(out, at, binding.realm);
@@ -54,14 +66,18 @@ fn binding(out: &mut [u8], at: usize, binding: Binding) -> usize {
 }
 
 // What is said of a list before its members.
-fn list(out: &mut [u8], at: usize, count: usize) -> usize {
+fn list(out: &mut [u8], at: usize, count: usize) -> usize
+    ensures { λ r. ⌜ r ≤ length (now (out .entry)) ⌝ }
+{
     if count == 0 {
         return bytes(out, at, b" empty");
     }
-    at
+    loops::at_most(at, out.len())
 }
 
-pub fn identities(out: &mut [u8], at: usize, answer: Identities) -> usize {
+pub fn identities(out: &mut [u8], at: usize, answer: Identities) -> usize
+    ensures { λ r. ⌜ r ≤ length (now (out .entry)) ⌝ }
+{
     let end = loops::at_most(answer.count, IDENTITIES);
     let mut at = list(out, at, end);
     let mut i = 0;
@@ -73,7 +89,9 @@ pub fn identities(out: &mut [u8], at: usize, answer: Identities) -> usize {
     at
 }
 
-pub fn target(out: &mut [u8], at: usize, answer: TargetBindings) -> usize {
+pub fn target(out: &mut [u8], at: usize, answer: TargetBindings) -> usize
+    ensures { λ r. ⌜ r ≤ length (now (out .entry)) ⌝ }
+{
     if !answer.there {
         return bytes(out, at, b" none");
     }
@@ -87,7 +105,9 @@ pub fn target(out: &mut [u8], at: usize, answer: TargetBindings) -> usize {
     at
 }
 
-pub fn committed(out: &mut [u8], at: usize, answer: CommittedBindings) -> usize {
+pub fn committed(out: &mut [u8], at: usize, answer: CommittedBindings) -> usize
+    ensures { λ r. ⌜ r ≤ length (now (out .entry)) ⌝ }
+{
     let end = loops::at_most(answer.count, LINKS);
     let mut at = list(out, at, end);
     let mut i = 0;

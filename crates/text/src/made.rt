@@ -1,4 +1,9 @@
 // Records made of a line's operands, in the order in which the tables are written, the first the record's place; port lists.
+ghost use mathlib.Core.List.{[]};
+ghost use mathlib.Core.Path.{_≡_};
+ghost use Prim.Native.Nat.{_%_, _+_, _^_};
+ghost use Rattle.model.specs.Interface.{portList};
+ghost use Rattle.text.specs.Made.{NodeFor, declarationFor, linkFor, parentOf, phaseAt, portFor};
 use crate::words::Line;
 use model::Declaration;
 use model::Link;
@@ -8,12 +13,16 @@ use model::Phase;
 use model::Port;
 use model::PortList;
 
-pub fn identity_of(operand: u64) -> usize {
+pub fn identity_of(operand: u64) -> usize
+    ensures { λ r. ⌜ r ≡ operand ⌝ }
+{
     operand as usize
 }
 
 // The phase of this place among the four.
-fn phase_at(place: u64) -> Phase {
+fn phase_at(place: u64) -> Phase
+    ensures { λ r. ⌜ r ≡ phaseAt place ⌝ }
+{
     match place {
         0 => Phase::Inactive,
         1 => Phase::Loading,
@@ -22,7 +31,9 @@ fn phase_at(place: u64) -> Phase {
     }
 }
 
-pub fn parent_of(none: bool, operand: u64) -> Parent {
+pub fn parent_of(none: bool, operand: u64) -> Parent
+    ensures { λ r. ⌜ r ≡ parentOf none operand ⌝ }
+{
     if none {
         Parent::None
     } else {
@@ -30,7 +41,9 @@ pub fn parent_of(none: bool, operand: u64) -> Parent {
     }
 }
 
-pub fn port_of(key: u64, realm: u64) -> Port {
+pub fn port_of(key: u64, realm: u64) -> Port
+    ensures { λ r. ⌜ r ≡ portFor key realm ⌝ }
+{
     Port {
         key: key,
         realm: realm,
@@ -38,7 +51,9 @@ pub fn port_of(key: u64, realm: u64) -> Port {
 }
 
 // PLACE PRESENT RETIRED PHASE RESTORING PARENT GENERATION
-pub fn node_of(line: Line) -> Node {
+pub fn node_of(line: Line) -> Node
+    ensures { λ r. ⌜ NodeFor line r ⌝ }
+{
     let phase = phase_at(line.fourth);
     let parent = parent_of(line.none, line.sixth);
     let mut node = records::new_node(parent);
@@ -50,13 +65,17 @@ pub fn node_of(line: Line) -> Node {
 }
 
 // PLACE OWNER KEY REALM PROVIDES
-pub fn declaration_of(line: Line) -> Declaration {
+pub fn declaration_of(line: Line) -> Declaration
+    ensures { λ r. ⌜ r ≡ declarationFor line ⌝ }
+{
     let port = port_of(line.third, line.fourth);
     records::declaration_of(identity_of(line.second), line.fifth == 1, port)
 }
 
 // PLACE CONSUMER KEY REALM PROVIDER LIVE
-pub fn link_of(line: Line) -> Link {
+pub fn link_of(line: Line) -> Link
+    ensures { λ r. ⌜ r ≡ linkFor line ⌝ }
+{
     let binding = records::binding_of(port_of(line.third, line.fourth), identity_of(line.fifth));
     let mut link = records::live_link(identity_of(line.second), binding);
     link.live = line.sixth == 1;
@@ -64,7 +83,9 @@ pub fn link_of(line: Line) -> Link {
 }
 
 // The empty list.
-pub fn no_ports() -> PortList {
+pub fn no_ports() -> PortList
+    ensures { λ r. ⌜ r ≡ portList [] ⌝ }
+{
     let blank = records::blank_port();
     PortList {
         ports: [blank; 32],
@@ -73,7 +94,9 @@ pub fn no_ports() -> PortList {
 }
 
 // COUNT KEY REALM STEP: so many more ports, KEY/REALM and then keys further by STEP; the entries past the count have such ports too.
-pub fn more_ports(list: PortList, count: usize, key: u64, realm: u64, step: u64) -> PortList {
+pub fn more_ports(list: PortList, count: usize, key: u64, realm: u64, step: u64) -> PortList
+    ensures { λ r. ⌜ r .count ≡ (list .count + count) % 2 ^ 64 ⌝ }
+{
     let mut ports = list.ports;
     let mut key = key;
     let mut i = list.count;

@@ -1,4 +1,6 @@
 // The tables: the counts, then a line for each record below them.
+ghost use lib.ListN.{length};
+ghost use Prim.Native.Nat.{_≤_};
 use crate::bytes;
 use crate::end;
 use crate::field;
@@ -13,7 +15,9 @@ use sizes::DECLARATIONS;
 use sizes::IDENTITIES;
 use sizes::LINKS;
 
-pub fn phase(out: &mut [u8], at: usize, phase: Phase) -> usize {
+pub fn phase(out: &mut [u8], at: usize, phase: Phase) -> usize
+    ensures { λ r. ⌜ r ≤ length (now (out .entry)) ⌝ }
+{
     match phase {
         Phase::Inactive => bytes(out, at, b" Inactive"),
         Phase::Loading => bytes(out, at, b" Loading"),
@@ -22,14 +26,18 @@ pub fn phase(out: &mut [u8], at: usize, phase: Phase) -> usize {
     }
 }
 
-fn parent(out: &mut [u8], at: usize, parent: Parent) -> usize {
+fn parent(out: &mut [u8], at: usize, parent: Parent) -> usize
+    ensures { λ r. ⌜ r ≤ length (now (out .entry)) ⌝ }
+{
     match parent {
         Parent::None => bytes(out, at, b" -"),
         Parent::Of(id) => field(out, at, id as u64),
     }
 }
 
-fn node(out: &mut [u8], at: usize, place: usize, node: Node) -> usize {
+fn node(out: &mut [u8], at: usize, place: usize, node: Node) -> usize
+    ensures { λ r. ⌜ r ≤ length (now (out .entry)) ⌝ }
+{
     let now = node.phase;
     let above = records::parent_in(node);
     let at = bytes(out, at, b"node");
@@ -43,7 +51,9 @@ fn node(out: &mut [u8], at: usize, place: usize, node: Node) -> usize {
     end(out, at)
 }
 
-fn declaration(out: &mut [u8], at: usize, place: usize, declaration: Declaration) -> usize {
+fn declaration(out: &mut [u8], at: usize, place: usize, declaration: Declaration) -> usize
+    ensures { λ r. ⌜ r ≤ length (now (out .entry)) ⌝ }
+{
     let port = records::declared_port(declaration);
     let at = bytes(out, at, b"decl");
     let at = field(out, at, place as u64);
@@ -54,7 +64,9 @@ fn declaration(out: &mut [u8], at: usize, place: usize, declaration: Declaration
     end(out, at)
 }
 
-fn link(out: &mut [u8], at: usize, place: usize, link: Link) -> usize {
+fn link(out: &mut [u8], at: usize, place: usize, link: Link) -> usize
+    ensures { λ r. ⌜ r ≤ length (now (out .entry)) ⌝ }
+{
     let binding = records::binding_in(link);
     let at = bytes(out, at, b"link");
     let at = field(out, at, place as u64);
@@ -66,7 +78,9 @@ fn link(out: &mut [u8], at: usize, place: usize, link: Link) -> usize {
     end(out, at)
 }
 
-fn counts(out: &mut [u8], at: usize, kernel: Kernel) -> usize {
+fn counts(out: &mut [u8], at: usize, kernel: Kernel) -> usize
+    ensures { λ r. ⌜ r ≤ length (now (out .entry)) ⌝ }
+{
     let at = bytes(out, at, b"counts");
     let at = field(out, at, kernel.node_count as u64);
     let at = field(out, at, kernel.declaration_count as u64);
@@ -75,19 +89,21 @@ fn counts(out: &mut [u8], at: usize, kernel: Kernel) -> usize {
 }
 
 // The record at this place of the three tables one after another, if it is below its table's count.
-fn record(out: &mut [u8], at: usize, kernel: Kernel, i: usize) -> usize {
+fn record(out: &mut [u8], at: usize, kernel: Kernel, i: usize) -> usize
+    ensures { λ r. ⌜ r ≤ length (now (out .entry)) ⌝ }
+{
     if i < IDENTITIES {
         if i < kernel.node_count {
             return node(out, at, i, kernel.nodes[i]);
         }
-        return at;
+        return loops::at_most(at, out.len());
     }
     let i = i - IDENTITIES;
     if i < DECLARATIONS {
         if i < kernel.declaration_count {
             return declaration(out, at, i, kernel.declarations[i]);
         }
-        return at;
+        return loops::at_most(at, out.len());
     }
     let i = i - DECLARATIONS;
     if i < LINKS {
@@ -95,11 +111,13 @@ fn record(out: &mut [u8], at: usize, kernel: Kernel, i: usize) -> usize {
             return link(out, at, i, kernel.links[i]);
         }
     }
-    at
+    loops::at_most(at, out.len())
 }
 
 // The counts, then the records below them: nodes, declarations, links.
-pub fn tables(out: &mut [u8], at: usize, kernel: Kernel) -> usize {
+pub fn tables(out: &mut [u8], at: usize, kernel: Kernel) -> usize
+    ensures { λ r. ⌜ r ≤ length (now (out .entry)) ⌝ }
+{
     let mut at = counts(out, at, kernel);
     let mut i = 0;
     while i < IDENTITIES + DECLARATIONS + LINKS {

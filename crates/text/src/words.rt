@@ -1,4 +1,8 @@
 // A line read: its name as a place in a row of names, its operands as numbers.
+ghost use lib.ListN.{length};
+ghost use Prim.Native.Nat.{_≤_};
+ghost use Rattle.text.specs.Words.{namesIn};
+
 const MOST: u64 = 18446744073709551615;
 
 // first to seventh: the operands that are there, then 0; a phase is its place among the four. none: an operand is `-`.
@@ -24,7 +28,9 @@ struct Operand {
 }
 
 // Word k of a line, empty if it has fewer.
-pub fn word<'a>(line: &'a [u8], k: usize) -> &'a [u8] {
+pub fn word<'a>(line: &'a [u8], k: usize) -> &'a [u8]
+    ensures { λ r. ⌜ length (now r) ≤ length (now (line .entry)) ⌝ }
+{
     let mut n = 0;
     let mut start = 0;
     let mut i = 0;
@@ -54,7 +60,9 @@ fn byte_at(bytes: &[u8], place: usize) -> u8 {
 }
 
 // The place of a word in a row of names, a space after each; past them if it is none of them.
-pub fn place_of(names: &[u8], word: &[u8]) -> usize {
+pub fn place_of(names: &[u8], word: &[u8]) -> usize
+    ensures { λ r. ⌜ r ≤ namesIn (now (names .entry)) ⌝ }
+{
     let mut place = 0;
     let mut same = true;
     let mut passed = 0;
@@ -128,7 +136,9 @@ fn operand_of(word: &[u8]) -> Operand {
 }
 
 // A line whose name is of this row of names; counts has a digit for each of them, how many operands it takes.
-pub fn read_line(names: &[u8], counts: &[u8], line: &[u8]) -> Line {
+pub fn read_line(names: &[u8], counts: &[u8], line: &[u8]) -> Line
+    ensures { λ r. ⌜ r .name ≤ namesIn (now (names .entry)) ⌝ }
+{
     let name = place_of(names, word(line, 0));
     let mut operands = [0u64; 8];
     let mut none = false;

@@ -1,10 +1,10 @@
--- `player::nobrighi_record` is safe and ends: a command takes at least one byte of the log.
-use Rattle.model.proofs.Logic.{_-_, _≡_, arith, length}
+-- `player::nobrighi_record` is safe and ends, what it gives in the buffer: a command takes at least one byte of the log.
+use Rattle.model.proofs.Logic.{_-_, _≡_, _≤_, arith, length}
 use Rattle.player.proofs.{nobrighi_record.Statement.statement}
 use Rattle.player.proofs.nobrighi_record.Tie as tie
 
 abbrev Inv-loop : tie.InvT-loop
-Inv-loop log questions every out₀ player₀ answer₀ written₀ index₀ out player answer written index = (length out ≡ length out₀) × (length answer ≡ 1)
+Inv-loop log questions every out₀ player₀ answer₀ written₀ index₀ out player answer written index = (length out ≡ length out₀) × (length answer ≡ 1) × (written ≤ length out)
 
 abbrev μ-loop : tie.MeasureT-loop
 μ-loop log questions every out₀ player₀ answer₀ written₀ index₀ out player answer written index = length log - index
@@ -31,10 +31,10 @@ nobrighi-record-spec = tie.close (tie.spec Inv-loop μ-loop
     (λ c κs. tt)  -- write-record-requires
     add-index
     (λ c. omega arith) (λ c. omega arith) (λ c. omega arith)  -- loop-less, loop-again, same-length
-    (λ c. tt)  -- returns
+    (λ c. omega arith)  -- returns
     (λ c. omega arith)  -- same-length-2
-    (λ c. tt)  -- returns-2
+    (λ c. omega arith)  -- returns-2
     (λ c. omega arith)  -- same-length-3
-    (λ c. tt)  -- returns-3
+    (λ c. omega arith)  -- returns-3
     (λ c. omega arith)  -- same-length-4
-    (λ c. tt))  -- returns-4
+    (λ c. omega arith))  -- returns-4

@@ -1,17 +1,22 @@
--- `player::commands::play` is safe and ends: each turn moves the place in the log on.
-use Rattle.model.proofs.Logic.{_-_, _≡_, arith, length, length-set}
+-- `player::commands::play` is safe and ends, its places in the log and in the answers: each turn moves the place in the log on.
+use Rattle.model.proofs.Logic.{List, _-_, _≡_, _≤_, arith, length, length-set, ℕ}
 use Rattle.player.proofs.{commands.play.Statement.statement}
 use Rattle.player.proofs.commands.play.Tie as tie
 
+-- the places in the answers and in the log are in bounds
+abbrev Within : List ℕ → List ℕ → List ℕ → ℕ → ℕ → ℕ → Type 0
+Within log answers₀ answers at₀ at answered = (length answers ≡ length answers₀) × (answered ≤ length answers) × (at₀ ≤ length log → at ≤ length log)
+
 abbrev Inv-loop : tie.InvT-loop
-Inv-loop log answers₀ kernel₀ dependencies₀ provisions₀ at₀ answered₀ detail₀ answers kernel dependencies provisions at answered detail = length answers ≡ length answers₀
+Inv-loop log answers₀ kernel₀ dependencies₀ provisions₀ at₀ answered₀ detail₀ answers kernel dependencies provisions at answered detail = Within log answers₀ answers at₀ at answered
 
 abbrev μ-loop : tie.MeasureT-loop
 μ-loop log answers₀ kernel₀ dependencies₀ provisions₀ at₀ answered₀ detail₀ answers kernel dependencies provisions at answered detail = length log - at
 
 pub play-spec : {M : Type 1} → statement M
 play-spec = tie.close (tie.spec Inv-loop μ-loop
-    (λ c. omega arith) (λ c. omega arith)  -- loop-holds, shared-slice-read-byte
+    (λ c. (omega arith, omega arith, λ h. h))  -- loop-holds
+    (λ c. omega arith)  -- shared-slice-read-byte
     (λ c κs. tt)  -- length-of-requires
     (λ c. omega arith) (λ c. omega arith) (λ c. omega arith) (λ c. omega arith)  -- slice-write-answers, add-answered, sub-if3, slice-write-answers-2
     (λ c. omega arith) (λ c. omega arith) (λ c. omega arith) (λ c. omega arith)  -- add-answered-2, add-operands, add-operands-2, add-operands-3
@@ -56,12 +61,12 @@ play-spec = tie.close (tie.spec Inv-loop μ-loop
     (λ c κs. tt)  -- configure-pending-dependencies-requires
     (λ c κs. tt)  -- answer-number-requires-13
     (λ c. omega arith) (λ c. omega arith) (λ c. omega arith) (λ c. omega arith) (λ c. omega arith)  -- slice-write-answers-3, add-answered-3, add-at, add-at-2, loop-less
-    (λ c. simp length-set (omega arith))  -- loop-again
+    (λ c. (simp length-set (omega arith), simp length-set (omega arith), λ h. omega arith))  -- loop-again
     (λ c. omega arith)  -- same-length
-    (λ c. tt)  -- returns
+    (λ c. (omega arith, c .before .loop .inv .2))  -- returns
     (λ c. omega arith)  -- same-length-2
-    (λ c. tt)  -- returns-2
+    (λ c. (omega arith, c .before .before .loop .inv .2))  -- returns-2
     (λ c. simp length-set (omega arith))  -- same-length-3
-    (λ c. tt)  -- returns-3
+    (λ c. (omega arith, λ h. omega arith))  -- returns-3
     (λ c. simp length-set (omega arith))  -- same-length-4
-    (λ c. tt))  -- returns-4
+    (λ c. (omega arith, λ h. omega arith)))  -- returns-4

@@ -1,10 +1,10 @@
--- `player::observe::committed` is safe and ends. The index is below the size at each read.
-use Rattle.model.proofs.Logic.{_-_, _≡_, arith, length}
+-- `player::observe::committed` is safe and ends, its place in the buffer. The index is below the size at each read.
+use Rattle.model.proofs.Logic.{_-_, _≡_, _≤_, arith, length}
 use Rattle.player.proofs.{observe.committed.Statement.statement}
 use Rattle.player.proofs.observe.committed.Tie as tie
 
 abbrev Inv-loop : tie.InvT-loop
-Inv-loop out₀ at bindings count end at₀ i₀ out at' i = length out ≡ length out₀
+Inv-loop out₀ at bindings count end at₀ i₀ out at' i = (length out ≡ length out₀) × (at' ≤ length out)
 
 abbrev μ-loop : tie.MeasureT-loop
 μ-loop out₀ at bindings count end at₀ i₀ out at' i = end - i
@@ -16,4 +16,4 @@ committed-spec = tie.close (tie.spec Inv-loop μ-loop
     (λ c. omega arith) (λ c. omega arith) (λ c. omega arith)  -- loop-holds, mul-binding, array-copy-out-binding
     (λ c κs. tt)  -- binding-requires
     (λ c. omega arith) (λ c. omega arith) (λ c. omega arith) (λ c. omega arith)  -- add-i, loop-less, loop-again, same-length
-    (λ c. tt))  -- returns
+    (λ c. omega arith))  -- returns

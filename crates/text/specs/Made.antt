@@ -1,0 +1,44 @@
+-- What is made of a line's operands.
+use mathlib.Core.Path.{_≡_}
+use mathlib.Core.Bool.{Bool, cond}
+use Prim.Native.Nat.{ℕ}
+use lib.Dec.{eqb}
+use Rattle.model.specs.declared.Parent.{Parent}
+use Rattle.model.specs.declared.Phase.{Phase}
+use Rattle.model.specs.declared.Port.{Port}
+use Rattle.model.specs.declared.records.Declaration.{Declaration}
+use Rattle.model.specs.declared.records.Link.{Link}
+use Rattle.model.specs.declared.records.Node.{Node}
+use Rattle.model.specs.Records.{bindingOf, declarationOf, linkOf, parentIn}
+use Rattle.text.specs.declared.words.Line.{Line}
+
+-- an operand that is a yes/no: 1 for yes
+abbrev pub isYes : ℕ → Bool
+isYes n = eqb n 1
+
+-- the phase of this place among the four, the last for any further place
+abbrev pub phaseAt : ℕ → Phase
+phaseAt n = cond (eqb n 0) Phase.Inactive (cond (eqb n 1) Phase.Loading (cond (eqb n 2) Phase.Active Phase.Unloading))
+
+abbrev pub parentOf : Bool → ℕ → Parent
+parentOf none id = cond none Parent.None (Parent.Of id)
+
+abbrev pub portFor : ℕ → ℕ → Port
+portFor key realm = record { key = key; realm = realm }
+
+-- PLACE PRESENT RETIRED PHASE RESTORING PARENT GENERATION: every field of the node
+pub record NodeFor (line : Line) (node : Node) : Type 0 where
+  pub present : node .present ≡ isYes (line .second)
+  pub retired : node .retired ≡ isYes (line .third)
+  pub phase : node .phase ≡ phaseAt (line .fourth)
+  pub restoring : node .restoring ≡ isYes (line .fifth)
+  pub parent : parentIn node ≡ parentOf (line .none) (line .sixth)
+  pub generation : node .generation ≡ line .seventh
+
+-- PLACE OWNER KEY REALM PROVIDES
+abbrev pub declarationFor : Line → Declaration
+declarationFor line = declarationOf (line .second) (isYes (line .fifth)) (portFor (line .third) (line .fourth))
+
+-- PLACE CONSUMER KEY REALM PROVIDER LIVE
+abbrev pub linkFor : Line → Link
+linkFor line = linkOf (line .second) (bindingOf (portFor (line .third) (line .fourth)) (line .fifth)) (isYes (line .sixth))
