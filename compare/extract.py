@@ -230,7 +230,7 @@ class Items(Reader):
             self.wrong("an attribute that is not known here")
 
     def default(self):
-        """Default is left out by the scope, and is only another name of `new`."""
+        """Default is left out: it is only another name of `new`."""
         self.skip("impl", "Default", "for", "Kernel")
         if " ".join(self.skip_group()) != "{ fn default ( ) -> Self { Self :: new ( ) } }":
             self.wrong("Default is not what it was")

@@ -1,7 +1,8 @@
 //! expected [--answers] FILE...: what the log player must print for each log, by lib.rs's bodies.
-// the modules have parts that only `run` uses
+// the modules have parts that only the other programs use
 #![allow(dead_code)]
 
+mod calls;
 mod log;
 mod record;
 mod reference;

@@ -1,4 +1,4 @@
-//! A small kernel by document 01 that steers the generator: it tells which commands would be accepted.
+//! A small kernel by the rules that steers the generator: it tells which commands would be accepted.
 //! No answer of it is compared with anything.
 use crate::log::{Command, Port, LIST, NONE};
 use crate::sizes::{DECLARATIONS, IDENTITIES, LINKS};

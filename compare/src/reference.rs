@@ -1,4 +1,5 @@
 //! lib.rs's own bodies, played command by command, with the fixed sizes' refusals applied.
+use crate::calls::{parent_of, Call};
 use crate::log::{self, Command};
 use crate::record::{self, Observed, Question, Record};
 use crate::sizes::{self, Counts, Size, CAPACITY};
@@ -46,17 +47,48 @@ impl Reference {
         Reference { kernel: Kernel::new(), dependencies: Vec::new(), provisions: Vec::new() }
     }
 
-    /// Plays a command; where a size refuses, lib.rs's step is undone.
+    /// A kernel that has these tables, and empty lists.
+    pub fn of(tables: &Record) -> Reference {
+        let kernel = Kernel {
+            nodes: tables.nodes.iter().map(node_of).collect(),
+            declarations: tables.declarations.iter().map(declaration_of).collect(),
+            links: tables.links.iter().map(link_of).collect(),
+        };
+        Reference { kernel, ..Reference::new() }
+    }
+
+    /// lib.rs's kernel, for its observers.
+    pub fn kernel(&self) -> &Kernel {
+        &self.kernel
+    }
+
+    /// Plays a log's command.
     pub fn play(&mut self, command: Command) -> Step {
-        match command {
-            Command::Dependency(p) => return pend(&mut self.dependencies, p),
-            Command::Provision(p) => return pend(&mut self.provisions, p),
-            _ => {}
+        match (command, Call::of(command)) {
+            (Command::Dependency(p), _) => pend(&mut self.dependencies, p),
+            (Command::Provision(p), _) => pend(&mut self.provisions, p),
+            (_, Some(call)) => self.call(call),
+            (_, None) => unreachable!(),
         }
+    }
+
+    /// Sets the pending lists, which may be longer than the log player's.
+    pub fn list(&mut self, dependencies: &[log::Port], provisions: &[log::Port]) {
+        self.dependencies = dependencies.iter().copied().map(port).collect();
+        self.provisions = provisions.iter().copied().map(port).collect();
+    }
+
+    /// How long the pending lists are.
+    fn listed(&self) -> [usize; 2] {
+        [self.dependencies.len(), self.provisions.len()]
+    }
+
+    /// Makes a call; where a size refuses, lib.rs's step is undone.
+    pub fn call(&mut self, call: Call) -> Step {
         let before = self.kernel.clone();
-        let listed = self.dependencies.len();
-        let (own, detail) = self.command(command);
-        let size = sizes::refuses(command, counts(&before), counts(&self.kernel), listed, own);
+        let listed = self.listed();
+        let (own, detail) = self.command(call);
+        let size = sizes::refuses(call, counts(&before), counts(&self.kernel), listed, own);
         if size.is_some() {
             self.kernel = before;
             return Step { answer: CAPACITY, detail: 0, own, size };
@@ -64,34 +96,33 @@ impl Reference {
         Step { answer: own, detail, own, size }
     }
 
-    /// lib.rs's answer to a command that is not the log player's own, and its detail.
-    fn command(&mut self, command: Command) -> (u8, u64) {
+    /// lib.rs's answer to a call, and its detail.
+    fn command(&mut self, call: Call) -> (u8, u64) {
         let kernel = &mut self.kernel;
-        match command {
-            Command::Dependency(_) | Command::Provision(_) => unreachable!(),
-            Command::Insert(parent) => {
+        match call {
+            Call::Insert(parent) => {
                 let (dependencies, provisions) = self.lists();
-                match self.kernel.insert(parent_of(parent), dependencies, provisions) {
+                match self.kernel.insert(parent, dependencies, provisions) {
                     Ok(id) => (0, id as u64),
                     Err(e) => (number(e), 0),
                 }
             }
-            Command::Configure(id) => {
+            Call::Configure(id) => {
                 let (dependencies, _) = self.lists();
-                done(self.kernel.configure_pending_dependencies(id.into(), dependencies))
+                done(self.kernel.configure_pending_dependencies(id, dependencies))
             }
-            Command::Begin(id) => done(kernel.begin(id.into())),
-            Command::Finish(id) => done(kernel.finish(id.into())),
-            Command::Leave(id) => done(kernel.leave(id.into())),
-            Command::LeaveIfChanged(id) => done(kernel.leave_if_changed(id.into())),
-            Command::Retire(id) => done(kernel.retire(id.into())),
-            Command::BeginCleanup(id) => done(kernel.begin_cleanup(id.into())),
-            Command::FinishCleanup(id) => done(kernel.finish_cleanup(id.into())),
-            Command::Remove(id) => done(kernel.remove(id.into())),
-            Command::CompactBindings => (0, kernel.compact_bindings() as u64),
-            Command::CompactDeclarations => (0, kernel.compact_declarations() as u64),
-            Command::Declare(id, p) => done(kernel.declare_provision(id.into(), port(p))),
-            Command::Release(id, p) => done(kernel.release_provision(id.into(), port(p))),
+            Call::Begin(id) => done(kernel.begin(id)),
+            Call::Finish(id) => done(kernel.finish(id)),
+            Call::Leave(id) => done(kernel.leave(id)),
+            Call::LeaveIfChanged(id) => done(kernel.leave_if_changed(id)),
+            Call::Retire(id) => done(kernel.retire(id)),
+            Call::BeginCleanup(id) => done(kernel.begin_cleanup(id)),
+            Call::FinishCleanup(id) => done(kernel.finish_cleanup(id)),
+            Call::Remove(id) => done(kernel.remove(id)),
+            Call::CompactBindings => (0, kernel.compact_bindings() as u64),
+            Call::CompactDeclarations => (0, kernel.compact_declarations() as u64),
+            Call::Declare(id, p) => done(kernel.declare_provision(id, port(p))),
+            Call::Release(id, p) => done(kernel.release_provision(id, port(p))),
         }
     }
 
@@ -106,16 +137,19 @@ impl Reference {
     }
 
     /// check_insert with the pending lists as they are; 9 where a size refuses an insert.
-    fn check_insert(&self, parent: u8) -> u8 {
-        let (own, _) = done(self.kernel.check_insert(parent_of(parent), &self.dependencies, &self.provisions));
+    pub fn check_insert(&self, parent: Option<usize>) -> Step {
+        let (own, detail) = done(self.kernel.check_insert(parent, &self.dependencies, &self.provisions));
         let before = counts(&self.kernel);
-        let listed = self.dependencies.len() + self.provisions.len();
-        let declarations = before.declarations + if own == 0 { listed } else { 0 };
+        let listed = self.listed();
+        let declarations = before.declarations + if own == 0 { listed.iter().sum() } else { 0 };
         let after = Counts { declarations, ..before };
-        match sizes::refuses(Command::Insert(parent), before, after, listed, own) {
-            Some(_) => CAPACITY,
-            None => own,
-        }
+        let size = sizes::refuses(Call::Insert(parent), before, after, listed, own);
+        Step { answer: if size.is_some() { CAPACITY } else { own }, detail, own, size }
+    }
+
+    /// check_iteration's answer.
+    pub fn check_iteration(&self, id: usize) -> u8 {
+        done(self.kernel.check_iteration(id)).0
     }
 
     /// The record after a step, with the observers' answers if they are asked.
@@ -151,8 +185,8 @@ impl Reference {
             resolve: optional(kernel.resolve(asked).map(|i| i as u64)),
             target: self.target(q.identity),
             committed: bindings(kernel.committed(id)),
-            check_iteration: done(kernel.check_iteration(id)).0,
-            check_insert: self.check_insert(q.identity),
+            check_iteration: self.check_iteration(id),
+            check_insert: self.check_insert(parent_of(q.identity)).answer,
         }
     }
 }
@@ -168,14 +202,6 @@ fn pend(list: &mut Vec<Port>, p: log::Port) -> Step {
 
 fn counts(kernel: &Kernel) -> Counts {
     Counts { nodes: kernel.nodes.len(), declarations: kernel.declarations.len(), links: kernel.links.len() }
-}
-
-fn parent_of(byte: u8) -> Option<usize> {
-    if byte == log::NONE {
-        None
-    } else {
-        Some(byte.into())
-    }
 }
 
 /// A refusal's number is its place in lib.rs's list, from 1.
@@ -221,4 +247,34 @@ fn declaration(d: &Declaration) -> record::Declaration {
 
 fn link(l: &Link) -> record::Link {
     record::Link { consumer: l.consumer as u64, binding: binding(&l.binding), live: l.live.into() }
+}
+
+fn node_of(n: &record::Node) -> Node {
+    let phase = match n.phase {
+        record::INACTIVE => Phase::Inactive,
+        record::LOADING => Phase::Loading,
+        record::ACTIVE => Phase::Active,
+        _ => Phase::Unloading,
+    };
+    Node {
+        present: n.present == 1,
+        retired: n.retired == 1,
+        phase,
+        restoring: n.restoring == 1,
+        parent: if n.has_parent == 1 { Some(n.parent as usize) } else { None },
+        generation: n.generation,
+    }
+}
+
+fn declaration_of(d: &record::Declaration) -> Declaration {
+    Declaration { owner: d.owner as usize, port: Port { key: d.key, realm: d.realm }, provides: d.provides == 1 }
+}
+
+fn link_of(l: &record::Link) -> Link {
+    let record::Binding { key, realm, provider } = l.binding;
+    Link {
+        consumer: l.consumer as usize,
+        binding: Binding { key, realm, provider: provider as usize },
+        live: l.live == 1,
+    }
 }

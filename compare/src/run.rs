@@ -1,5 +1,9 @@
 //! run COMMANDS SEED [random]: plays logs on lib.rs's bodies and on the compiled kernel, and compares after each
 //! command. With `random` the scenarios are left out.
+// the modules have parts that only the other programs use
+#![allow(dead_code)]
+
+mod calls;
 mod checks;
 mod compare;
 mod coverage;

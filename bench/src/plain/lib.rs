@@ -1,4 +1,4 @@
-//! Document 01 in plain Rust: fixed tables with counts, the soundness test at entry in nested loops, and commands that take
+//! The rules in plain Rust: fixed tables with counts, the soundness test at entry in nested loops, and commands that take
 //! the kernel by value and hand it back with the answer.
 mod compaction;
 mod insertion;

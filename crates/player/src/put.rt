@@ -1,4 +1,4 @@
-// Bytes at the end of what is written; each function gives the place after them. A byte past the end is left out.
+// Bytes at the end of what is written; each function gives the place after them, at most the length. A byte past the end is left out.
 
 ghost use lib.ListN.{length};
 ghost use mathlib.Core.Path.{_≡_};

@@ -1,15 +1,18 @@
 -- What is made of a line's operands.
 use mathlib.Core.Path.{_≡_}
 use mathlib.Core.Bool.{Bool, cond}
-use Prim.Native.Nat.{ℕ}
+use Prim.Native.Nat.{_%_, _+_, _-_, _<_, _^_, _≤_, suc, zero, ℕ}
 use lib.Dec.{eqb}
+use lib.ListN.{getD}
 use Rattle.model.specs.declared.Parent.{Parent}
 use Rattle.model.specs.declared.Phase.{Phase}
 use Rattle.model.specs.declared.Port.{Port}
+use Rattle.model.specs.declared.PortList.{PortList}
 use Rattle.model.specs.declared.records.Declaration.{Declaration}
 use Rattle.model.specs.declared.records.Link.{Link}
 use Rattle.model.specs.declared.records.Node.{Node}
-use Rattle.model.specs.Records.{bindingOf, declarationOf, linkOf, parentIn}
+use Rattle.model.specs.Records.{bindingOf, blankPort, declarationOf, linkOf, parentIn}
+use Rattle.model.specs.Sizes.{listLimit}
 use Rattle.text.specs.declared.words.Line.{Line}
 
 -- an operand that is a yes/no: 1 for yes
@@ -42,3 +45,14 @@ declarationFor line = declarationOf (line .second) (isYes (line .fifth)) (portFo
 -- PLACE CONSUMER KEY REALM PROVIDER LIVE
 abbrev pub linkFor : Line → Link
 linkFor line = linkOf (line .second) (bindingOf (portFor (line .third) (line .fourth)) (line .fifth)) (isYes (line .sixth))
+
+-- a key, so many steps on; past the largest number it wraps
+unfoldable pub stepped : ℕ → ℕ → ℕ → ℕ
+stepped key step zero = key
+stepped key step (suc n) = (stepped key step n + step) % 2 ^ 64
+
+-- COUNT KEY REALM STEP: the ports below the list's count stay, from it on stand KEY/REALM and then keys further by STEP, past the new count too
+pub record MorePorts (list : PortList) (count key realm step : ℕ) (r : PortList) : Type 0 where
+  pub counted : r .count ≡ (list .count + count) % 2 ^ 64
+  pub kept : (i : ℕ) → i < list .count → getD (r .ports) i blankPort ≡ getD (list .ports) i blankPort
+  pub added : (i : ℕ) → list .count ≤ i → i < listLimit → getD (r .ports) i blankPort ≡ portFor (stepped key step (i - list .count)) realm

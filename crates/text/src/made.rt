@@ -1,9 +1,8 @@
 // Records made of a line's operands, in the order in which the tables are written, the first the record's place; port lists.
 ghost use mathlib.Core.List.{[]};
 ghost use mathlib.Core.Path.{_≡_};
-ghost use Prim.Native.Nat.{_%_, _+_, _^_};
 ghost use Rattle.model.specs.Interface.{portList};
-ghost use Rattle.text.specs.Made.{NodeFor, declarationFor, linkFor, parentOf, phaseAt, portFor};
+ghost use Rattle.text.specs.Made.{MorePorts, NodeFor, declarationFor, linkFor, parentOf, phaseAt, portFor};
 use crate::words::Line;
 use model::Declaration;
 use model::Link;
@@ -95,7 +94,7 @@ pub fn no_ports() -> PortList
 
 // COUNT KEY REALM STEP: so many more ports, KEY/REALM and then keys further by STEP; the entries past the count have such ports too.
 pub fn more_ports(list: PortList, count: usize, key: u64, realm: u64, step: u64) -> PortList
-    ensures { λ r. ⌜ r .count ≡ (list .count + count) % 2 ^ 64 ⌝ }
+    ensures { λ r. ⌜ MorePorts list count key realm step r ⌝ }
 {
     let mut ports = list.ports;
     let mut key = key;

@@ -1,10 +1,10 @@
 -- What a method hands back, from what its kernel's layout is commanded and answers.
-use Rattle.model.proofs.Logic.{Bool, List, _++_, _∙_, _∷_, _≡_, ap, false, getD, inl, inr, none, not, not-false, not-true, refl, set, some, subst, sym, true, ℕ}
+use Rattle.model.proofs.Logic.{Bool, List, _++_, _<_, _∙_, _∷_, _≡_, ap, false, getD, inl, inr, none, not, not-false, not-true, refl, set, some, subst, sym, true, ℕ}
 use Rattle.kernel.specs.{Fields.isSound, Fields.kernelOf, Fields.layoutOf, Outcomes.CompactionReturns, Outcomes.Handed, Outcomes.InsertReturns, Outcomes.Returns, Outcomes.answerOf, Outcomes.command, Outcomes.compactionOutcome, Outcomes.insertOutcome, Outcomes.outcome, declared.CompactionOutcome.CompactionOutcome, declared.InsertOutcome.InsertOutcome, declared.Kernel.Kernel, declared.Outcome.Outcome}
 use Rattle.model.specs.{Answers.answer, Answers.answerNumber, Answers.insertAnswer, Answers.insertAnswerNumber, Answers.removedCount, Commands.Command, Commands.report, Commands.result, Commands.tests, Insertion.insertTests, Interface.unknown, Kernels.AnsweredAt, Layouts.Sized, Layouts.layOut, Layouts.tablesOf, Records.blankNode, Refusals.Reply, Refusals.Tests, Refusals.accepted, Refusals.first, Refusals.replyNumber, Rows.changedNode, Tables.Tables, Tables.nodeAt, Tables.present, Tables.withNode, declared.Answer.Answer, declared.Error.Error, declared.InsertAnswer.InsertAnswer, declared.Parent.Parent, declared.PortList.PortList, declared.records.Node.Node, declared.rows.Transition.Transition}
-use Rattle.layouts.proofs.{Laws.Nodes.node-changed, Laws.Rows.Accepted, Laws.Rows.accepted-by, Laws.Rows.done-row, Laws.Rows.done-sound, Laws.Rows.done-whole, Laws.Rows.refused-by, Laws.Rows.refused-command, Laws.Rows.refused-whole, Laws.Sound.SoundKernel, Laws.Sound.node-count-is}
+use Rattle.layouts.proofs.{Laws.Nodes.node-changed, Laws.Rows.Accepted, Laws.Rows.accepted-by, Laws.Rows.done-row, Laws.Rows.done-sound, Laws.Rows.done-whole, Laws.Rows.refused-by, Laws.Rows.refused-command, Laws.Rows.refused-whole, Laws.Sound.SoundKernel, Laws.Sound.node-count-is, Laws.Sound.present-below}
 use Rattle.model.proofs.{Laws.Refusals.Passed, Laws.Refusals.of-passed, Laws.Refusals.report-accepts, Theorems.Kernels.commanded-unsound, Theorems.Kernels.every-call-answered}
-use Rattle.sizes.specs.{Sizes.sizes}
+use Rattle.sizes.specs.{Sizes.IDENTITIES, Sizes.sizes}
 
 -- any reply but a refusal is Done
 accepted-done : (r : Reply) → accepted r ≡ true → answer r ≡ Answer.Done
@@ -137,6 +137,9 @@ module _ {k : Kernel} {c : Command} {a : Answer} (A : Answered k c a) where
     module _ (id : ℕ) {ts : Tests} (u : tests sizes (tablesOf (layoutOf k)) c ≡ unknown (tablesOf (layoutOf k)) id ∷ ts) where
       pub done-present : present ((tablesOf (layoutOf k)) .nodes) id ≡ true
       done-present = not-false _ ((rw u at done-tests) .0)
+
+      pub done-below : id < IDENTITIES
+      done-below = present-below done-kernel id done-present
 
       -- the node changed, and nothing else
       module _ (t : Transition) (r : result (tablesOf (layoutOf k)) c ≡ withNode (tablesOf (layoutOf k)) id (changedNode t (nodeAt ((tablesOf (layoutOf k)) .nodes) id))) where

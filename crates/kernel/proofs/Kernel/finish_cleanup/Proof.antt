@@ -2,7 +2,7 @@
 use Rattle.model.proofs.Logic.{_∙_, _≡_, needs, refl, sym, true, ℕ}
 use Rattle.kernel.specs.{Fields.layoutOf, declared.Kernel.Kernel}
 use Rattle.model.specs.{Commands.Command, Layouts.tablesOf, Records.deadFor, Records.restoredNode, Tables.present}
-use Rattle.kernel.proofs.{Kernel.finish_cleanup.Statement.statement, Laws.Outcomes.Answered, Laws.Outcomes.done-as, Laws.Outcomes.done-kernel, Laws.Outcomes.done-present, Laws.Outcomes.refused-as, Laws.Lengths.sized}
+use Rattle.kernel.proofs.{Kernel.finish_cleanup.Statement.statement, Laws.Outcomes.Answered, Laws.Outcomes.done-as, Laws.Outcomes.done-below, Laws.Outcomes.done-kernel, Laws.Outcomes.done-present, Laws.Outcomes.refused-as, Laws.Lengths.sized}
 use Rattle.layouts.proofs.{Laws.Anew.HoldsLinks, Laws.Anew.links-changed, Laws.Nodes.node-and-links, Laws.Sound.SoundKernel}
 use Rattle.sizes.specs.{Sizes.sizes}
 use Rattle.kernel.proofs.Kernel.finish_cleanup.Tie as tie
@@ -28,6 +28,9 @@ module _ (d : tie.After-enum-told) where
   here : present ((tablesOf (layoutOf k)) .nodes) id ≡ true
   here = done-present (whole a) (d .enum-told .given .1) id refl
 
+change-requires : tie.Need-change-requires
+change-requires c κs = let d = c .before .before .before in done-below (whole (a d)) (d .enum-told .given .1) (id d) refl
+
 returns : tie.Need-returns
 returns c =
     let m = c .before .before in
@@ -42,7 +45,7 @@ returns-2 c = refused-as (whole (c .before .before)) (c .enum-told2 .given .1)
 pub finish-cleanup-spec : {M : Type 1} → statement M
 finish-cleanup-spec = tie.close (tie.spec
     (λ c κs. search needs) (λ c. search needs) (λ c κs. search needs)  -- check-node-requires, enum-told, dead-links-requires
-    (λ c κs. search needs)  -- change-requires
+    change-requires
     (λ c. search needs)  -- enum-told-2
     returns
     returns-2)

@@ -1,0 +1,100 @@
+//! by_hand KERNELS SEED CASES ROOM: sound kernels written by hand, and KERNELS random ones, each with commands and
+//! questions that are answered by lib.rs's bodies and by the compiled kernel in the program CASES; the lines that it
+//! reads are written to the folder ROOM.
+// the modules have parts that only the other programs use
+#![allow(dead_code)]
+
+mod asked;
+mod calls;
+mod cases;
+mod directed;
+mod log;
+mod met;
+mod random;
+mod random_tables;
+mod record;
+mod reference;
+mod session;
+mod sizes;
+mod sound;
+mod tables;
+mod text;
+mod tried;
+
+use cases::{Difference, Line, Program};
+use met::Met;
+use random::Random;
+use record::Record;
+
+/// So many lines are written before the program is run on them.
+const LINES: usize = 100_000;
+
+fn main() {
+    let words: Vec<String> = std::env::args().skip(1).collect();
+    let numbers: Vec<u64> = words.iter().filter_map(|a| a.parse().ok()).collect();
+    let (&[kernels, seed], [_, _, cases, room]) = (numbers.as_slice(), words.as_slice()) else {
+        eprintln!("use: by_hand KERNELS SEED CASES ROOM");
+        std::process::exit(2);
+    };
+    let program = Program { path: cases.into(), room: room.into() };
+    let mut random = Random::new(seed);
+    let (mut lines, mut met) = (Vec::new(), Met::default());
+    println!("seed {seed}");
+    let directed = directed::all();
+    println!("{} kernels written by hand, {kernels} random ones", directed.len());
+    for (name, tables) in directed {
+        add(&name, &tables.0, &mut random, &mut lines, &mut met);
+        run_if(lines.len() > LINES, &program, &mut lines);
+    }
+    for count in 0..kernels {
+        let tables = random_tables::sample(&mut random);
+        add(&format!("random kernel {count}"), &tables, &mut random, &mut lines, &mut met);
+        run_if(lines.len() > LINES, &program, &mut lines);
+    }
+    run_if(true, &program, &mut lines);
+    met.print();
+    println!("no difference");
+}
+
+/// The lines of a kernel, which has to be sound.
+fn add(name: &str, tables: &Record, random: &mut Random, lines: &mut Vec<Line>, met: &mut Met) {
+    if !sound::sound(tables) {
+        eprintln!("by_hand: not sound: {name}\n{}", text::tables(tables));
+        std::process::exit(2);
+    }
+    session::play(tables, random, lines, met);
+}
+
+/// Runs the program on the lines; a difference ends the run.
+fn run_if(due: bool, program: &Program, lines: &mut Vec<Line>) {
+    if !due {
+        return;
+    }
+    match program.compare(lines) {
+        Ok(None) => lines.clear(),
+        Ok(Some(difference)) => {
+            report(lines, &difference);
+            std::process::exit(1);
+        }
+        Err(why) => {
+            eprintln!("by_hand: {why}");
+            std::process::exit(2);
+        }
+    }
+}
+
+/// The kernel, the commands since it was last brought back, the line, and both sides' first line that differs.
+fn report(lines: &[Line], d: &Difference) {
+    let before = |name: &str| lines[..=d.at].iter().rposition(|l| l.text == name);
+    let start = before("new").unwrap_or(0);
+    let written = lines[start..=d.at].iter().take_while(|l| l.text != "tables");
+    println!("DIFFERENCE after {} commands", lines[d.at].commands);
+    println!("-- the kernel as written");
+    written.for_each(|l| println!("{}", l.text));
+    println!("-- steps");
+    let back = before("back").max(before("keep")).unwrap_or(start).max(start);
+    let acts = |l: &&Line| l.answer.as_ref().is_none_or(|a| a.ends_with("changed"));
+    lines[back + 1..d.at].iter().filter(acts).chain([&lines[d.at]]).for_each(|l| println!("{}", l.text));
+    println!("-- lib.rs: {}", d.original);
+    println!("-- compiled: {}", d.kernel);
+}

@@ -1,0 +1,159 @@
+//! What a comparison on kernels made by hand met: kernels, answers by command, size refusals by lib.rs's own answer.
+use crate::calls::Call;
+use crate::record::{Record, ACTIVE, LOADING};
+use crate::reference::{Reference, Step};
+use crate::sizes::{Size, DECLARATIONS, IDENTITIES, LINKS};
+use crate::tables::MOST;
+
+/// The commands and checks, by their place in the table of answers.
+pub const NAMES: [&str; 16] = [
+    "begin",
+    "finish",
+    "leave",
+    "leave_if_changed",
+    "retire",
+    "begin_cleanup",
+    "finish_cleanup",
+    "remove",
+    "declare_provision",
+    "release_provision",
+    "compact_bindings",
+    "compact_declarations",
+    "insert",
+    "configure_pending_dependencies",
+    "check_insert",
+    "check_iteration",
+];
+pub const CHECK_INSERT: usize = 14;
+pub const CHECK_ITERATION: usize = 15;
+
+const SIZES: [Size; 7] = [
+    Size::InsertList,
+    Size::ConfigureList,
+    Size::Identities,
+    Size::InsertSum,
+    Size::DeclareSum,
+    Size::ConfigureSum,
+    Size::Links,
+];
+
+/// A kind of kernel that no log makes, or that is at a size.
+type Kind = (&'static str, fn(&Record, &Reference) -> bool);
+
+const KINDS: [Kind; 10] = [
+    ("a present component of generation 2^64 - 2", |t, _| generation(t, MOST - 1)),
+    ("a present component of generation 2^64 - 1", |t, _| generation(t, MOST)),
+    ("64 identities", |t, _| t.nodes.len() == IDENTITIES),
+    ("256 declarations", |t, _| t.declarations.len() == DECLARATIONS),
+    ("512 links", |t, _| t.links.len() == LINKS),
+    ("a Loading or Active component with a target that is not what is committed", |t, r| not_committed(t, r)),
+    ("an absent identity that was never retired", |t, _| t.nodes.iter().any(|n| n.present == 0 && n.retired == 0)),
+    ("a present owner that provides a port twice", |t, _| provides_twice(t)),
+    ("a Loading provider of a live link", |t, _| {
+        t.links.iter().any(|l| l.live == 1 && t.nodes[l.binding.provider as usize].phase == LOADING)
+    }),
+    ("a dead link of an identity that was never issued", |t, _| {
+        t.links.iter().any(|l| l.consumer.max(l.binding.provider) >= t.nodes.len() as u64)
+    }),
+];
+
+#[derive(Default)]
+pub struct Met {
+    pub kernels: u64,
+    pub commands: u64,
+    pub questions: u64,
+    pub tables: u64,
+    kinds: [u64; KINDS.len()],
+    answers: [[u64; 10]; 16],
+    sizes: [[u64; 10]; 7],
+    /// begin done at generation 2^64 - 2, and refused 9 at 2^64 - 1.
+    last_begins: [u64; 2],
+}
+
+impl Met {
+    pub fn kernel(&mut self, tables: &Record, reference: &Reference) {
+        self.kernels += 1;
+        for (count, (_, holds)) in self.kinds.iter_mut().zip(KINDS) {
+            *count += u64::from(holds(tables, reference));
+        }
+    }
+
+    pub fn command(&mut self, call: Call, step: &Step, before: &Record) {
+        self.commands += 1;
+        self.answer(place(call), step);
+        let Call::Begin(id) = call else { return };
+        let generation = before.nodes.get(id).map(|n| n.generation);
+        self.last_begins[0] += u64::from(step.answer == 0 && generation == Some(MOST - 1));
+        self.last_begins[1] += u64::from(step.own == 9 && generation == Some(MOST));
+    }
+
+    pub fn answer(&mut self, place: usize, step: &Step) {
+        self.answers[place][usize::from(step.answer)] += 1;
+        if let Some(row) = step.size.and_then(|size| SIZES.iter().position(|&s| s == size)) {
+            self.sizes[row][usize::from(step.own)] += 1;
+        }
+    }
+
+    pub fn print(&self) {
+        println!(
+            "{} kernels, {} commands, {} questions, tables compared {} times",
+            self.kernels, self.commands, self.questions, self.tables
+        );
+        println!(
+            "begin done at generation 2^64 - 2: {}, refused at 2^64 - 1: {}",
+            self.last_begins[0], self.last_begins[1]
+        );
+        println!("\n| kernels with | times |\n|---|---|");
+        for (count, (name, _)) in self.kinds.iter().zip(KINDS) {
+            println!("| {name} | {count} |");
+        }
+        println!("\n| command or check | done | {} |", (1..=9).map(|n| n.to_string()).collect::<Vec<_>>().join(" | "));
+        println!("|---|{}", "---|".repeat(10));
+        for (name, met) in NAMES.iter().zip(&self.answers) {
+            let cells = met.map(|n| if n == 0 { "".to_string() } else { n.to_string() });
+            println!("| {name} | {} |", cells.join(" | "));
+        }
+        println!("\n| a size refused (9) | times | lib.rs's own answer there |\n|---|---|---|");
+        for (size, met) in SIZES.iter().zip(&self.sizes) {
+            let own: Vec<String> = (0..10).filter(|&a| met[a] > 0).map(|a| format!("{a}: {}", met[a])).collect();
+            println!("| {} | {} | {} |", size.name(), met.iter().sum::<u64>(), own.join(", "));
+        }
+    }
+}
+
+/// A command's place among the names.
+pub fn place(call: Call) -> usize {
+    match call {
+        Call::Begin(_) => 0,
+        Call::Finish(_) => 1,
+        Call::Leave(_) => 2,
+        Call::LeaveIfChanged(_) => 3,
+        Call::Retire(_) => 4,
+        Call::BeginCleanup(_) => 5,
+        Call::FinishCleanup(_) => 6,
+        Call::Remove(_) => 7,
+        Call::Declare(..) => 8,
+        Call::Release(..) => 9,
+        Call::CompactBindings => 10,
+        Call::CompactDeclarations => 11,
+        Call::Insert(_) => 12,
+        Call::Configure(_) => 13,
+    }
+}
+
+fn generation(t: &Record, generation: u64) -> bool {
+    t.nodes.iter().any(|n| n.present == 1 && n.generation == generation)
+}
+
+/// On a reached kernel a target of a Loading or Active component is what is committed.
+fn not_committed(t: &Record, reference: &Reference) -> bool {
+    let kernel = reference.kernel();
+    let installed = |id: &usize| t.nodes[*id].phase == LOADING || t.nodes[*id].phase == ACTIVE;
+    (0..t.nodes.len()).filter(installed).any(|id| kernel.target(id).is_some_and(|b| b != kernel.committed(id)))
+}
+
+fn provides_twice(t: &Record) -> bool {
+    let present = |owner: u64| t.nodes[owner as usize].present == 1;
+    let mine = t.declarations.iter().enumerate().filter(|(_, d)| d.provides == 1 && present(d.owner));
+    mine.into_iter().any(|(at, d)| t.declarations[..at].contains(d))
+}

@@ -1,0 +1,146 @@
+//! One kernel made by hand: its lines for the program `cases`, with the answers of lib.rs's bodies.
+use crate::asked::{self, Asked};
+use crate::calls::Call;
+use crate::cases::Line;
+use crate::log::Port;
+use crate::met::{Met, CHECK_INSERT, CHECK_ITERATION};
+use crate::random::Random;
+use crate::record::Record;
+use crate::reference::{Reference, Step};
+use crate::sound::sound;
+use crate::text;
+use crate::tried::{self, Trial};
+
+pub struct Session<'a> {
+    reference: Reference,
+    lines: &'a mut Vec<Line>,
+    met: &'a mut Met,
+}
+
+/// Writes a kernel, asks about it, tries commands on it, then plays some after each other.
+pub fn play(start: &Record, random: &mut Random, lines: &mut Vec<Line>, met: &mut Met) {
+    let mut s = Session { reference: Reference::of(start), lines, met };
+    s.met.kernel(start, &s.reference);
+    s.write(start);
+    let (identities, ports) = (tried::identities(start, random), tried::ports(start, random));
+    s.observe(&identities, &ports);
+    for trial in tried::each(&identities, &ports, random) {
+        if s.trial(&trial, true) {
+            s.set("back".to_string());
+            s.reference = Reference::of(start);
+        }
+    }
+    for _ in 0..tried::WALK {
+        s.trial(&tried::any(&identities, &ports, random), false);
+    }
+    s.observe(&identities, &ports);
+    s.tables();
+}
+
+impl Session<'_> {
+    /// A line that writes the kernel or sets what later lines use.
+    fn set(&mut self, text: String) {
+        self.lines.push(Line { text, answer: None, commands: self.met.commands });
+    }
+
+    fn expect(&mut self, text: String, answer: String) {
+        self.lines.push(Line { text, answer: Some(answer), commands: self.met.commands });
+    }
+
+    /// The kernel's own lines are those that `tables` prints.
+    fn write(&mut self, start: &Record) {
+        self.set("new".to_string());
+        text::tables(start).lines().for_each(|line| self.set(line.to_string()));
+        self.tables();
+        self.set("keep".to_string());
+    }
+
+    /// The three tables and whether they are sound; the program ends them with an empty line.
+    fn tables(&mut self) {
+        let now = self.reference.record(0, 0, None);
+        let sound = if sound(&now) { "sound" } else { "not sound" };
+        self.met.tables += 1;
+        self.expect("tables".to_string(), format!("{sound}\n{}\n", text::tables(&now)));
+    }
+
+    fn ask(&mut self, questions: Vec<Asked>) {
+        self.met.questions += questions.len() as u64;
+        questions.into_iter().for_each(|(line, answer)| self.expect(line, answer));
+    }
+
+    /// Every observer and check_iteration.
+    fn observe(&mut self, identities: &[usize], ports: &[Port]) {
+        let sound = if sound(&self.reference.record(0, 0, None)) { "yes" } else { "no" };
+        self.ask(vec![("sound".to_string(), sound.to_string())]);
+        self.ask(asked::of_all(self.reference.kernel()));
+        for &id in identities {
+            self.ask(asked::of_identity(self.reference.kernel(), id));
+            let own = self.reference.check_iteration(id);
+            self.met.answer(CHECK_ITERATION, &Step { answer: own, detail: 0, own, size: None });
+            self.ask(vec![(format!("check_iteration {id}"), refusal(own))]);
+            for &port in ports {
+                self.ask(asked::of_declaration(self.reference.kernel(), id, port));
+            }
+        }
+        for &port in ports {
+            self.ask(vec![asked::of_port(self.reference.kernel(), port)]);
+        }
+    }
+
+    /// The lists that insert and configure take, and use up.
+    fn list(&mut self, trial: &Trial) {
+        let lists = [trial.dependencies.lines("dependencies"), trial.provisions.lines("provisions")];
+        lists.into_iter().flatten().for_each(|line| self.set(line));
+        self.reference.list(&trial.dependencies.ports(), &trial.provisions.ports());
+    }
+
+    fn check_insert(&mut self, parent: Option<usize>) {
+        let step = self.reference.check_insert(parent);
+        self.met.answer(CHECK_INSERT, &step);
+        let line = format!("check_insert {}", tried::parent(parent));
+        self.ask(vec![(line, hidden(&step).unwrap_or(refusal(step.answer)))]);
+    }
+
+    /// Makes a call, an insert after check_insert if `check`; whether it changed the kernel. Where it did, the tables
+    /// are compared; elsewhere the program's own answer says that nothing changed.
+    fn trial(&mut self, trial: &Trial, check: bool) -> bool {
+        let before = self.reference.record(0, 0, None);
+        self.list(trial);
+        if let (Call::Insert(parent), true) = (trial.call, check) {
+            self.check_insert(parent);
+        }
+        let step = self.reference.call(trial.call);
+        let changed = self.reference.record(0, 0, None) != before;
+        self.met.command(trial.call, &step, &before);
+        self.expect(tried::line(trial.call), hidden(&step).unwrap_or(told(trial.call, &step, changed)));
+        if changed {
+            self.tables();
+        }
+        changed
+    }
+}
+
+/// A size that refuses where it may not: a text that the program never prints.
+fn hidden(step: &Step) -> Option<String> {
+    let wrong = step.size.is_some_and(|size| !size.hides().contains(&step.own));
+    wrong.then(|| format!("a size hides lib.rs's answer {}", step.own))
+}
+
+fn refusal(answer: u8) -> String {
+    match answer {
+        0 => "done".to_string(),
+        n => format!("refused {n}"),
+    }
+}
+
+/// A command's answer as the program prints it.
+fn told(call: Call, step: &Step, changed: bool) -> String {
+    let changed = if changed { "changed" } else { "unchanged" };
+    match call {
+        Call::Insert(_) if step.answer == 0 => format!("identity {}, {changed}", step.detail),
+        Call::CompactBindings | Call::CompactDeclarations => {
+            format!("{}, removed {}, {changed}", refusal(step.answer), step.detail)
+        }
+        _ => format!("{}, {changed}", refusal(step.answer)),
+    }
+}
