@@ -8,6 +8,7 @@ mod asked;
 mod calls;
 mod cases;
 mod directed;
+mod intended;
 mod log;
 mod met;
 mod random;

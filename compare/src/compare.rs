@@ -107,7 +107,7 @@ impl Comparison<'_> {
 
     /// A byte that ends the run: its answer, and the tables as they were.
     fn stop(&mut self, answer: u8, tally: &mut Tally) -> Result<(), Box<Difference>> {
-        let step = Step { answer, detail: 0, own: answer, size: None };
+        let step = Step { answer, detail: 0, own: answer, intended: None };
         let kernel = self.same(&step, self.asked.log.len())?;
         tally.coverage.stop(answer);
         tally.coverage.record(&kernel);
@@ -115,12 +115,12 @@ impl Comparison<'_> {
         Ok(())
     }
 
-    /// The kernel's next record, equal to lib.rs's; a size refuses only where it may.
+    /// The kernel's next record, equal to lib.rs's; in the place of lib.rs's answer it refuses only where it may.
     fn same(&mut self, step: &Step, end: usize) -> Result<Record, Box<Difference>> {
         let original = self.reference.record(step.answer, step.detail, self.asked.question(self.index));
         let kernel = self.kernel.record();
-        if step.size.is_some_and(|size| !size.hides().contains(&step.own)) {
-            return self.differ(format!("a size hides lib.rs's answer {}", step.own), end, original, kernel);
+        if step.hides_wrongly() {
+            return self.differ(format!("a refusal hides lib.rs's answer {}", step.own), end, original, kernel);
         }
         if self.answers.is_some_and(|a| a.get(self.index) != Some(&step.answer)) {
             return self.differ("the answers alone differ".into(), end, original, kernel);

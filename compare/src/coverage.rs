@@ -1,15 +1,15 @@
-//! What a run met: answers by command, sizes reached, size refusals by lib.rs's own answer.
+//! What a run met: answers by command, sizes reached, refusals that lib.rs does not have, by lib.rs's own answer.
+use crate::intended::{self, IN_LOGS};
 use crate::log::{Command, NAMES};
 use crate::record::Record;
 use crate::reference::Step;
 use crate::situations::{Seen, SITUATIONS};
-use crate::sizes::{Size, SIZES};
 
 /// The answers that each command can give from the empty kernel, by its place in the log's command bytes.
 const REACHABLE: [&[u8]; 16] = [
     &[0, 9],
     &[0, 9],
-    &[0, 1, 5, 9],
+    &[0, 1, 3, 5, 9],
     &[0, 1, 2, 3, 4, 9],
     &[0, 1, 2, 6],
     &[0, 1, 2],
@@ -24,7 +24,7 @@ const REACHABLE: [&[u8]; 16] = [
     &[0, 1, 7],
     &[0, 1, 2, 3, 5, 9],
 ];
-const CHECKS: [(&str, &[u8]); 2] = [("check_iteration", &[0, 1, 2, 6]), ("check_insert", &[0, 1, 5, 9])];
+const CHECKS: [(&str, &[u8]); 2] = [("check_iteration", &[0, 1, 2, 6]), ("check_insert", &[0, 1, 3, 5, 9])];
 
 #[derive(Default)]
 pub struct Coverage {
@@ -35,7 +35,7 @@ pub struct Coverage {
     pub observed: u64,
     answers: [[u64; 13]; 16],
     checks: [[u64; 13]; 2],
-    sizes: [[u64; 10]; 6],
+    intended: [[u64; 10]; IN_LOGS.len()],
     longest_run: u64,
     situations: [u64; SITUATIONS.len()],
     /// Nodes, declarations, links, live links, generation, links in a chain.
@@ -52,9 +52,8 @@ impl Coverage {
     pub fn command(&mut self, command: Command, step: &Step) {
         self.commands += 1;
         self.answers[usize::from(command.byte()) - 1][usize::from(step.answer)] += 1;
-        if let Some(size) = step.size {
-            let row = SIZES.iter().position(|&s| s == size).unwrap_or(0);
-            self.sizes[row][usize::from(step.own)] += 1;
+        if let Some(row) = step.intended.and_then(|refused| IN_LOGS.iter().position(|&r| r == refused)) {
+            self.intended[row][usize::from(step.own)] += 1;
         }
     }
 
@@ -125,10 +124,9 @@ impl Coverage {
             print_row(name, met);
         }
         println!();
-        println!("| a size refused (9) | times | lib.rs's own answer there |");
-        println!("|---|---|---|");
-        for (size, met) in SIZES.iter().zip(&self.sizes) {
-            print_size(*size, met);
+        println!("{}", intended::HEAD);
+        for (refused, met) in IN_LOGS.iter().zip(&self.intended) {
+            println!("{}", refused.row(met));
         }
         println!();
         println!("| what is easy to get wrong | times |");
@@ -145,13 +143,6 @@ impl Coverage {
 fn print_row(name: &str, met: &[u64; 13]) {
     let cells: Vec<String> = met[..10].iter().map(|&n| if n == 0 { "".to_string() } else { n.to_string() }).collect();
     println!("| {name} | {} |", cells.join(" | "));
-}
-
-fn print_size(size: Size, met: &[u64; 10]) {
-    let own = (0..10).filter(|&a| met[a] > 0).map(|a| format!("{a}: {}", met[a]));
-    let own =
-        if size == Size::List { "none: the log player's own".to_string() } else { own.collect::<Vec<_>>().join(", ") };
-    println!("| {} | {} | {own} |", size.name(), met.iter().sum::<u64>());
 }
 
 /// How many live links the longest chain has; a provider's own links stand earlier in the table.

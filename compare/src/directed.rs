@@ -149,7 +149,8 @@ fn full() -> Vec<(String, Tables)> {
             for links in [LINKS - 1, LINKS] {
                 let mut kernel = provider().node(INACTIVE).node(INACTIVE).depends(1, A);
                 while kernel.0.nodes.len() < nodes {
-                    kernel = if kernel.0.nodes.len() % 2 == 0 { kernel.absent() } else { kernel.node(ACTIVE) };
+                    let id = kernel.0.nodes.len();
+                    kernel = if id % 2 == 0 { kernel.absent() } else { kernel.node(ACTIVE) }.retired(id % 4 > 1);
                 }
                 while kernel.0.declarations.len() < declarations {
                     let at = kernel.0.declarations.len() as u64;

@@ -3,6 +3,7 @@
 #![allow(dead_code)]
 
 mod calls;
+mod intended;
 mod log;
 mod record;
 mod reference;
@@ -54,7 +55,9 @@ fn play(log: &[u8]) -> (Vec<u8>, String) {
                 break;
             }
             Next::Command(command, end) => {
-                answers.push(reference.play(command).answer);
+                let step = reference.play(command);
+                assert!(!step.hides_wrongly(), "command {}: lib.rs answers {}", answers.len(), step.own);
+                answers.push(step.answer);
                 at = end;
             }
         }

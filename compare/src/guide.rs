@@ -117,6 +117,9 @@ impl Guide {
         if parent.is_some_and(|p| !self.present(p)) {
             return 1;
         }
+        if parent.is_some_and(|p| self.nodes[p].retired) {
+            return 3;
+        }
         if repeats(dependencies) || repeats(provisions) || provisions.iter().any(|&p| self.owner(p).is_some()) {
             return 5;
         }

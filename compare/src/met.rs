@@ -1,8 +1,9 @@
-//! What a comparison on kernels made by hand met: kernels, answers by command, size refusals by lib.rs's own answer.
+//! What a comparison on kernels made by hand met: kernels, answers by command, refusals that lib.rs does not have, by lib.rs's own answer.
 use crate::calls::Call;
+use crate::intended::{self, Intended};
 use crate::record::{Record, ACTIVE, LOADING};
 use crate::reference::{Reference, Step};
-use crate::sizes::{Size, DECLARATIONS, IDENTITIES, LINKS};
+use crate::sizes::{DECLARATIONS, IDENTITIES, LINKS};
 use crate::tables::MOST;
 
 /// The commands and checks, by their place in the table of answers.
@@ -27,14 +28,15 @@ pub const NAMES: [&str; 16] = [
 pub const CHECK_INSERT: usize = 14;
 pub const CHECK_ITERATION: usize = 15;
 
-const SIZES: [Size; 7] = [
-    Size::InsertList,
-    Size::ConfigureList,
-    Size::Identities,
-    Size::InsertSum,
-    Size::DeclareSum,
-    Size::ConfigureSum,
-    Size::Links,
+const INTENDED: [Intended; 8] = [
+    Intended::InsertList,
+    Intended::ConfigureList,
+    Intended::Identities,
+    Intended::RetiredParent,
+    Intended::InsertSum,
+    Intended::DeclareSum,
+    Intended::ConfigureSum,
+    Intended::Links,
 ];
 
 /// A kind of kernel that no log makes, or that is at a size.
@@ -65,7 +67,7 @@ pub struct Met {
     pub tables: u64,
     kinds: [u64; KINDS.len()],
     answers: [[u64; 10]; 16],
-    sizes: [[u64; 10]; 7],
+    intended: [[u64; 10]; INTENDED.len()],
     /// begin done at generation 2^64 - 2, and refused 9 at 2^64 - 1.
     last_begins: [u64; 2],
 }
@@ -89,8 +91,8 @@ impl Met {
 
     pub fn answer(&mut self, place: usize, step: &Step) {
         self.answers[place][usize::from(step.answer)] += 1;
-        if let Some(row) = step.size.and_then(|size| SIZES.iter().position(|&s| s == size)) {
-            self.sizes[row][usize::from(step.own)] += 1;
+        if let Some(row) = step.intended.and_then(|refused| INTENDED.iter().position(|&r| r == refused)) {
+            self.intended[row][usize::from(step.own)] += 1;
         }
     }
 
@@ -113,10 +115,9 @@ impl Met {
             let cells = met.map(|n| if n == 0 { "".to_string() } else { n.to_string() });
             println!("| {name} | {} |", cells.join(" | "));
         }
-        println!("\n| a size refused (9) | times | lib.rs's own answer there |\n|---|---|---|");
-        for (size, met) in SIZES.iter().zip(&self.sizes) {
-            let own: Vec<String> = (0..10).filter(|&a| met[a] > 0).map(|a| format!("{a}: {}", met[a])).collect();
-            println!("| {} | {} | {} |", size.name(), met.iter().sum::<u64>(), own.join(", "));
+        println!("\n{}", intended::HEAD);
+        for (refused, met) in INTENDED.iter().zip(&self.intended) {
+            println!("{}", refused.row(met));
         }
     }
 }

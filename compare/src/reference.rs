@@ -1,8 +1,8 @@
-//! lib.rs's own bodies, played command by command, with the fixed sizes' refusals applied.
+//! lib.rs's own bodies, played command by command, with the refusals applied that lib.rs does not have.
 use crate::calls::{parent_of, Call};
+use crate::intended::{self, Answered, Counts, Intended};
 use crate::log::{self, Command};
 use crate::record::{self, Observed, Question, Record};
-use crate::sizes::{self, Counts, Size, CAPACITY};
 
 include!(env!("ORIGINAL_RS"));
 
@@ -32,14 +32,21 @@ pub struct Reference {
 
 /// What a command came to.
 pub struct Step {
-    /// The answer with the fixed sizes' refusals applied.
+    /// The kernel's answer.
     pub answer: u8,
     /// The identity issued, or the count removed, else 0.
     pub detail: u64,
     /// lib.rs's own answer.
     pub own: u8,
-    /// The size that refused.
-    pub size: Option<Size>,
+    /// What refused in the place of lib.rs's answer.
+    pub intended: Option<Intended>,
+}
+
+impl Step {
+    /// Whether something refused in the place of an answer of lib.rs's that it may not hide.
+    pub fn hides_wrongly(&self) -> bool {
+        self.intended.is_some_and(|refused| !refused.hides().contains(&self.own))
+    }
 }
 
 impl Reference {
@@ -83,17 +90,22 @@ impl Reference {
         [self.dependencies.len(), self.provisions.len()]
     }
 
-    /// Makes a call; where a size refuses, lib.rs's step is undone.
+    /// Whether a call names a parent that is present and retired.
+    fn parent_retired(&self, call: Call) -> bool {
+        matches!(call, Call::Insert(Some(parent)) if self.kernel.retired(parent))
+    }
+
+    /// Makes a call; where the kernel refuses and lib.rs may not, lib.rs's step is undone.
     pub fn call(&mut self, call: Call) -> Step {
-        let before = self.kernel.clone();
-        let listed = self.listed();
+        let kernel = self.kernel.clone();
+        let (before, lists, parent_retired) = (counts(&kernel), self.listed(), self.parent_retired(call));
         let (own, detail) = self.command(call);
-        let size = sizes::refuses(call, counts(&before), counts(&self.kernel), listed, own);
-        if size.is_some() {
-            self.kernel = before;
-            return Step { answer: CAPACITY, detail: 0, own, size };
+        let answered = Answered { own, before, after: counts(&self.kernel), lists, parent_retired };
+        let intended = intended::refuses(call, &answered);
+        if intended.is_some() {
+            self.kernel = kernel;
         }
-        Step { answer: own, detail, own, size }
+        step(own, detail, intended)
     }
 
     /// lib.rs's answer to a call, and its detail.
@@ -136,15 +148,14 @@ impl Reference {
         self.kernel.target(id.into()).map(bindings)
     }
 
-    /// check_insert with the pending lists as they are; 9 where a size refuses an insert.
+    /// check_insert with the pending lists as they are; refused where an insert is.
     pub fn check_insert(&self, parent: Option<usize>) -> Step {
         let (own, detail) = done(self.kernel.check_insert(parent, &self.dependencies, &self.provisions));
-        let before = counts(&self.kernel);
-        let listed = self.listed();
-        let declarations = before.declarations + if own == 0 { listed.iter().sum() } else { 0 };
+        let (call, before, lists) = (Call::Insert(parent), counts(&self.kernel), self.listed());
+        let declarations = before.declarations + if own == 0 { lists.iter().sum() } else { 0 };
         let after = Counts { declarations, ..before };
-        let size = sizes::refuses(Call::Insert(parent), before, after, listed, own);
-        Step { answer: if size.is_some() { CAPACITY } else { own }, detail, own, size }
+        let answered = Answered { own, before, after, lists, parent_retired: self.parent_retired(call) };
+        step(own, detail, intended::refuses(call, &answered))
     }
 
     /// check_iteration's answer.
@@ -194,10 +205,18 @@ impl Reference {
 /// A port for a pending list: a 33rd is refused and not added. This is the log player's, and not lib.rs's.
 fn pend(list: &mut Vec<Port>, p: log::Port) -> Step {
     if list.len() == log::LIST {
-        return Step { answer: CAPACITY, detail: 0, own: 0, size: Some(Size::List) };
+        return step(0, 0, Some(Intended::List));
     }
     list.push(port(p));
-    Step { answer: 0, detail: 0, own: 0, size: None }
+    step(0, 0, None)
+}
+
+/// A step by lib.rs's answer and what refused in its place.
+fn step(own: u8, detail: u64, intended: Option<Intended>) -> Step {
+    match intended {
+        Some(refused) => Step { answer: refused.number(), detail: 0, own, intended },
+        None => Step { answer: own, detail, own, intended },
+    }
 }
 
 fn counts(kernel: &Kernel) -> Counts {

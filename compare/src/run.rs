@@ -9,6 +9,7 @@ mod compare;
 mod coverage;
 mod generator;
 mod guide;
+mod intended;
 mod log;
 mod operands;
 mod profile;

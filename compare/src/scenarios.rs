@@ -26,6 +26,7 @@ pub fn all() -> Vec<(&'static str, Vec<u8>)> {
         ("the order of the tests", order()),
         ("release in each phase", release()),
         ("parents and children", children()),
+        ("a retired parent in each phase", retired_parents()),
         ("ports that differ in one byte", bytes_of_ports()),
         ("a log of 65,536 bytes", longest(&[0x0C])),
         ("a log of 65,536 bytes that ends in a cut command", longest(&[0x04])),
@@ -66,7 +67,7 @@ fn identities() -> Vec<u8> {
     }
     s.root(&[], &[]).insert(64, &[], &[]).insert(63, &[], &[port(0, 0)]).insert(200, &[], &[]);
     s.start(63).add(Command::Leave(64)).add(Command::Retire(200)).begin(255);
-    s.add(Command::Retire(62)).add(Command::Remove(62)).root(&[], &[]);
+    s.add(Command::Retire(62)).insert(62, &[], &[]).add(Command::Remove(62)).insert(62, &[], &[]).root(&[], &[]);
     s.log
 }
 
@@ -82,6 +83,7 @@ fn declarations() -> Vec<u8> {
         .add(Command::Declare(4, port(0, 1)));
     // full: no further port, yet an empty component, and each refusal that stands before the sum
     s.root(&[], &[]).root(&[P], &[]).begin(5).configure(5, &[P]).add(Command::Retire(3)).configure(3, &[P, P]);
+    s.insert(3, &[P], &[]).insert(3, &[P, P], &[]).insert(4, &[P, P], &[]).insert(4, &[P], &[]);
     s.configure(9, &[P, P]).configure(0, &[P, P]).configure(0, &[]);
     // 224: the sum counts the dependencies that go
     s.configure(1, &ports(50, LIST)).add(Command::Declare(4, port(700, 1))).configure(1, &ports(50, LIST));
@@ -206,6 +208,27 @@ fn children() -> Vec<u8> {
         s.add(Command::Retire(id)).add(Command::Remove(id));
     }
     s.insert(0, &[], &[]).insert(NONE, &[], &[]).insert(4, &[], &[]);
+    s.log
+}
+
+/// 0 to 4 are Inactive, Loading, Active, Unloading and restoring, each with a child, when they are retired.
+fn retired_parents() -> Vec<u8> {
+    let mut s = Script::new();
+    s.root(&[], &[]).root(&[], &[]).root(&[], &[P]).root(&[], &[]).root(&[], &[]);
+    s.begin(1).start(2).start(3).add(Command::Leave(3)).start(4).add(Command::Leave(4)).add(Command::BeginCleanup(4));
+    for id in 0..5 {
+        s.insert(id, &[P], &[]).add(Command::Retire(id)).insert(id, &[], &[]);
+        // before a port that is taken, a port listed twice, and a new port
+        s.insert(id, &[], &[P]).insert(id, &[P, P], &[]).insert(id, &[], &[port(u64::from(id), 2)]);
+    }
+    // no parent, a parent that was never issued, and a child of a retired parent
+    s.root(&[], &[P]).insert(63, &[], &[P]).insert(64, &[], &[]).insert(254, &[], &[]).root(&[], &[]);
+    s.insert(5, &[P], &[port(9, 2)]).start(5).start(11).add(Command::Remove(0));
+    // 0 goes with its child and grandchild; its node stays marked retired
+    for id in [11, 5] {
+        s.stop(id).add(Command::Retire(id)).add(Command::Remove(id));
+    }
+    s.add(Command::Remove(0)).insert(0, &[], &[]).insert(5, &[], &[P]).insert(NONE, &[], &[port(9, 2)]);
     s.log
 }
 

@@ -76,7 +76,7 @@ impl Session<'_> {
         for &id in identities {
             self.ask(asked::of_identity(self.reference.kernel(), id));
             let own = self.reference.check_iteration(id);
-            self.met.answer(CHECK_ITERATION, &Step { answer: own, detail: 0, own, size: None });
+            self.met.answer(CHECK_ITERATION, &Step { answer: own, detail: 0, own, intended: None });
             self.ask(vec![(format!("check_iteration {id}"), refusal(own))]);
             for &port in ports {
                 self.ask(asked::of_declaration(self.reference.kernel(), id, port));
@@ -120,10 +120,9 @@ impl Session<'_> {
     }
 }
 
-/// A size that refuses where it may not: a text that the program never prints.
+/// A refusal that hides an answer of lib.rs's wrongly: a text that the program never prints.
 fn hidden(step: &Step) -> Option<String> {
-    let wrong = step.size.is_some_and(|size| !size.hides().contains(&step.own));
-    wrong.then(|| format!("a size hides lib.rs's answer {}", step.own))
+    step.hides_wrongly().then(|| format!("a refusal hides lib.rs's answer {}", step.own))
 }
 
 fn refusal(answer: u8) -> String {

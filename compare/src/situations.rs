@@ -1,6 +1,6 @@
 //! Situations that are easy to get wrong, counted so that a run shows that it met them.
 use crate::log::Command;
-use crate::record::{Node, Record, INACTIVE, LOADING, UNLOADING};
+use crate::record::{Node, Record, ACTIVE, INACTIVE, LOADING, UNLOADING};
 use crate::sizes::{DECLARATIONS, LINKS};
 
 /// A command with the tables before and after it; every answer is in `after`.
@@ -13,7 +13,7 @@ pub struct Seen<'a> {
 /// A situation's name, and whether a command met it.
 pub type Situation = (&'static str, fn(&Seen) -> bool);
 
-pub const SITUATIONS: [Situation; 14] = [
+pub const SITUATIONS: [Situation; 19] = [
     ("begin done, bound to a retired provider", |s| {
         begun(s) && s.added_links().any(|provider| s.before.nodes[provider as usize].retired == 1)
     }),
@@ -53,10 +53,16 @@ pub const SITUATIONS: [Situation; 14] = [
         let own = |id: u8| s.before.declarations.iter().any(|d| d.owner == u64::from(id) && d.provides == 0);
         s.after.answer == 0 && matches!(s.command, Command::Configure(id) if own(id))
     }),
-    ("insert done under a retired parent", |s| {
-        let parent =
-            s.after.nodes.last().filter(|n| n.has_parent == 1).and_then(|n| s.before.nodes.get(n.parent as usize));
-        matches!(s.command, Command::Insert(_)) && s.after.answer == 0 && parent.is_some_and(|p| p.retired == 1)
+    ("insert refused 3 under an Inactive parent", |s| insert_under(s, 3, |n| n.phase == INACTIVE)),
+    ("insert refused 3 under a Loading parent", |s| insert_under(s, 3, |n| n.phase == LOADING)),
+    ("insert refused 3 under an Active parent", |s| insert_under(s, 3, |n| n.phase == ACTIVE)),
+    ("insert refused 3 under an Unloading parent", |s| insert_under(s, 3, |n| n.phase == UNLOADING)),
+    ("insert refused 1 under a removed parent that is still marked retired", |s| {
+        insert_under(s, 1, |n| n.present == 0 && n.retired == 1)
+    }),
+    ("begin done of a component whose parent is retired", |s| {
+        let parent = s.node().filter(|n| n.has_parent == 1).and_then(|n| s.before.nodes.get(n.parent as usize));
+        begun(s) && parent.is_some_and(|p| p.retired == 1)
     }),
     ("release done of a retired or Unloading owner's port", |s| {
         let dropped = s.after.declarations.len() < s.before.declarations.len();
@@ -68,6 +74,12 @@ pub const SITUATIONS: [Situation; 14] = [
 
 fn begun(s: &Seen) -> bool {
     matches!(s.command, Command::Begin(_)) && s.after.answer == 0
+}
+
+/// An insert with this answer whose parent's node is such.
+fn insert_under(s: &Seen, answer: u8, such: fn(&Node) -> bool) -> bool {
+    let Command::Insert(parent) = s.command else { return false };
+    s.after.answer == answer && s.before.nodes.get(usize::from(parent)).is_some_and(such)
 }
 
 impl Seen<'_> {

@@ -25,6 +25,9 @@ impl Kernel {
         if parent.is_some_and(|p| !self.contains(p)) {
             return Err(Error::Unknown);
         }
+        if parent.is_some_and(|p| self.nodes[p].retired) {
+            return Err(Error::Retired);
+        }
         let taken = provisions.listed().iter().any(|&p| self.provider(p).is_some());
         if taken || repeats(provisions.listed()) || repeats(dependencies.listed()) {
             return Err(Error::Conflict);

@@ -50,6 +50,10 @@ impl Kernel {
             if !scans::flag_at(&present, p) {
                 return Answer::Refused(Error::Unknown);
             }
+            let above = nodes[p];
+            if above.retired {
+                return Answer::Refused(Error::Retired);
+            }
         }
         let free = scans::check_provisions(provisions, declarations, count, present);
         if !(free & loops::distinct_ports(dependencies)) {

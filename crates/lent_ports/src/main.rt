@@ -139,6 +139,12 @@ fn providing(key: u64) -> Kernel {
     inserted.kernel
 }
 
+// A kernel whose one component provides 0/1 and is retired.
+fn retired() -> Kernel {
+    let outcome = providing(0).retire(0);
+    outcome.kernel
+}
+
 // More identities than a kernel holds.
 fn unsound() -> Kernel {
     let mut kernel = Kernel::new();
@@ -159,5 +165,6 @@ fn main() {
         repeated(2),
     );
     table(b"parent unknown", providing(0), Parent::Of(1), wanted);
+    table(b"parent retired", retired(), Parent::Of(0), wanted);
     table(b"unsound", unsound(), none, wanted);
 }

@@ -1,5 +1,5 @@
 -- Insertion: insert, and check_insert with the same tests.
-use mathlib.Core.Bool.{Bool, _||_, not, true}
+use mathlib.Core.Bool.{Bool, _||_, false, not, true}
 use mathlib.Core.List.{List, [], _++_, _∷_, map}
 use Prim.Native.Nat.{_+_, ℕ}
 use lib.Dec.{leb, ltb}
@@ -13,12 +13,17 @@ use Rattle.model.specs.Lists.{any}
 use Rattle.model.specs.Records.{dependency, newNode, provision}
 use Rattle.model.specs.Refusals.{Reply, Tests, first, orElse}
 use Rattle.model.specs.Sizes.{Sizes}
-use Rattle.model.specs.Tables.{Tables, present}
+use Rattle.model.specs.Tables.{Tables, nodeAt, present}
 
--- a parent, if any, is present; it may be retired
+-- a parent, if any, is present
 unfoldable pub parentPresent : Tables → Parent → Bool
 parentPresent T Parent.None = true
 parentPresent T (Parent.Of p) = present (T .nodes) p
+
+-- there is a parent, and it is retired, in whatever phase
+unfoldable pub parentRetired : Tables → Parent → Bool
+parentRetired T Parent.None = false
+parentRetired T (Parent.Of p) = (nodeAt (T .nodes) p) .retired
 
 -- a list repeats a port, or a present owner provides a listed provision
 abbrev pub clashes : Tables → PortList → PortList → Bool
@@ -29,6 +34,7 @@ insertTests S T q ds ps =
     (tooLong ds || tooLong ps, Error.Capacity)
     ∷ (leb (S .identities) (length (T .nodes)), Error.Capacity)
     ∷ (not (parentPresent T q), Error.Unknown)
+    ∷ (parentRetired T q, Error.Retired)
     ∷ (clashes T ds ps, Error.Conflict)
     ∷ (ltb (S .declarations) (length (T .declarations) + length (listed ds) + length (listed ps)), Error.Capacity)
     ∷ []

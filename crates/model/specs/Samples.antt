@@ -106,8 +106,8 @@ after08 compacted = record { nodes = root Phase.Unloading 1 ∷ root Phase.Inact
 
 abbrev after11 : Tables
 after11 =
-    let ns = nodeOf false true Phase.Inactive Parent.None 1 ∷ nodeOf true true Phase.Inactive Parent.None 1 ∷ root Phase.Inactive 0 ∷ nodeOf true false Phase.Inactive (Parent.Of 1) 0 ∷ [] in
-    record { nodes = ns; declarations = dependency 1 P ∷ provision 2 P ∷ []; links = [] }
+    let removed = nodeOf false true Phase.Inactive Parent.None 1 in
+    record { nodes = removed ∷ removed ∷ root Phase.Inactive 0 ∷ []; declarations = dependency 1 P ∷ provision 2 P ∷ []; links = [] }
 
 abbrev pub samples : List Row
 samples =
@@ -151,8 +151,8 @@ samples =
     calls Command.compactDeclarations (Reply.removed 1) ∷
     -- C11
     calls (Command.retire 1) Reply.done ∷
-    calls (Command.insert (Parent.Of 1) noPorts noPorts) (Reply.issued 3) ∷
-    refuses (Command.remove 1) Error.Children ∷
+    refuses (Command.insert (Parent.Of 1) noPorts noPorts) Error.Retired ∷
+    calls (Command.remove 1) Reply.done ∷
     asks Ask.tables (Shown.holds after11) ∷
     -- C12
     calls (Command.releaseProvision 2 (port 8 1)) Reply.done ∷
@@ -164,7 +164,7 @@ SamplesHold = play controller (emptyKernel controller) samples ≡ map (λ r. r 
 -- ---- the order of the tests of a row, where two of them apply: at small sizes, so that the tables fill soon
 
 abbrev tiny : Sizes
-tiny = record { identities = 3; declarations = 4; links = 2 }
+tiny = record { identities = 4; declarations = 4; links = 2 }
 
 abbrev A : Port
 A = port 1 0
@@ -187,8 +187,6 @@ orders =
     refuses (Command.insert Parent.None noPorts (portList (A ∷ B ∷ C ∷ P ∷ []))) Error.Conflict ∷
     calls (Command.insert Parent.None (only P) noPorts) (Reply.issued 1) ∷
     calls (Command.insert (Parent.Of 0) noPorts noPorts) (Reply.issued 2) ∷
-    -- identities before parent
-    refuses (Command.insert (Parent.Of 9) noPorts noPorts) Error.Capacity ∷
     -- configure: list before identity, sum before repeat
     refuses (Command.configurePendingDependencies 9 tooMany) Error.Capacity ∷
     refuses (Command.configurePendingDependencies 2 (portList (A ∷ A ∷ B ∷ []))) Error.Capacity ∷
@@ -223,7 +221,20 @@ orders =
     refuses (Command.declareProvision 2 C) Error.Capacity ∷
     -- declare: phase before conflict
     calls (Command.leave 2) Reply.done ∷
-    refuses (Command.declareProvision 2 P) Error.InvalidState ∷ []
+    refuses (Command.declareProvision 2 P) Error.InvalidState ∷
+    -- insert: list before a retired parent, and that before conflict and sum, before the sum alone; no parent is not retired
+    refuses (Command.insert (Parent.Of 0) tooMany noPorts) Error.Capacity ∷
+    refuses (Command.insert (Parent.Of 0) noPorts (only P)) Error.Retired ∷
+    refuses (Command.insert (Parent.Of 0) noPorts (only C)) Error.Retired ∷
+    refuses (Command.insert Parent.None noPorts (only P)) Error.Conflict ∷
+    refuses (Command.insert Parent.None noPorts (only C)) Error.Capacity ∷
+    -- absent before retired
+    calls (Command.remove 1) Reply.done ∷
+    refuses (Command.insert (Parent.Of 1) noPorts (only P)) Error.Unknown ∷
+    -- identities before an absent parent and a retired one
+    calls (Command.insert (Parent.Of 2) noPorts noPorts) (Reply.issued 3) ∷
+    refuses (Command.insert (Parent.Of 9) noPorts noPorts) Error.Capacity ∷
+    refuses (Command.insert (Parent.Of 0) noPorts noPorts) Error.Capacity ∷ []
 
 abbrev pub OrdersHold : Type 0
 OrdersHold = play tiny (emptyKernel tiny) orders ≡ map (λ r. r .shows) orders

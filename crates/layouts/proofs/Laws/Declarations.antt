@@ -1,7 +1,7 @@
 -- Declarations of a sound kernel: what scans of its arrays find, and one list or record behind them.
-use Rattle.model.proofs.Logic.{Bool, List, [], _&&_, _++_, _+_, _<_, _||_, _∙_, _∷_, _≡_, _≤_, ap, append-assoc, arith, cond, false, leb-false, length, length-map, length-take-le, ltb-false, map, not, refl, set, sym, take, true, ℕ}
-use Rattle.model.specs.{Insertion.clashes, Insertion.insertTests, Insertion.inserted, Insertion.parentPresent, Interface.configureTests, Interface.dependenciesConfigured, Interface.distinct, Interface.listed, Interface.own, Interface.provisionDeclared, Interface.taken, Interface.takenBy, Interface.tooLong, Layouts.Layout, Layouts.layOut, Layouts.tablesOf, Lists.any, Lists.keep, Lists.padded, Records.blankDeclaration, Records.dependency, Records.newNode, Records.provision, Resolution.isDependencyOf, Sizes.Sizes, Sizes.listLimit, Soundness.isDeclaration, Tables.Tables, Tables.present, Tables.withDeclarations, declared.Parent.Parent, declared.Port.Port, declared.PortList.PortList, declared.records.Declaration.Declaration, declared.records.Node.Node}
-use Rattle.layouts.proofs.{Laws.Anew.HoldsDeclarations, Laws.Anew.declarations-anew, Laws.Anew.declarations-held, Laws.Anew.declarationsTo, Laws.Anew.holds-more, Laws.Anew.holds-one, Laws.Anew.holds-padded, Laws.Anew.kept-fewer, Laws.Anew.laid-as, Laws.Anew.links-held, Laws.Anew.nodesTo, Laws.Sound.SoundKernel, Laws.Sound.declaration-count-is, Laws.Sound.node-count-is, Laws.Sound.nodes-flagged, Laws.Sound.nodes-laid}
+use Rattle.model.proofs.Logic.{Bool, List, [], _&&_, _++_, _+_, _<_, _||_, _∙_, _∷_, _≡_, _≤_, ap, append-assoc, arith, cond, false, getD, leb-false, length, length-map, length-take-le, ltb-false, map, not, refl, set, sym, take, true, ℕ}
+use Rattle.model.specs.{Insertion.clashes, Insertion.insertTests, Insertion.inserted, Insertion.parentPresent, Insertion.parentRetired, Interface.configureTests, Interface.dependenciesConfigured, Interface.distinct, Interface.listed, Interface.own, Interface.provisionDeclared, Interface.taken, Interface.takenBy, Interface.tooLong, Layouts.Layout, Layouts.layOut, Layouts.tablesOf, Lists.any, Lists.keep, Lists.padded, Records.blankDeclaration, Records.blankNode, Records.dependency, Records.newNode, Records.provision, Resolution.isDependencyOf, Sizes.Sizes, Sizes.listLimit, Soundness.isDeclaration, Tables.Tables, Tables.present, Tables.withDeclarations, declared.Parent.Parent, declared.Port.Port, declared.PortList.PortList, declared.records.Declaration.Declaration, declared.records.Node.Node}
+use Rattle.layouts.proofs.{Laws.Anew.HoldsDeclarations, Laws.Anew.declarations-anew, Laws.Anew.declarations-held, Laws.Anew.declarationsTo, Laws.Anew.holds-more, Laws.Anew.holds-one, Laws.Anew.holds-padded, Laws.Anew.kept-fewer, Laws.Anew.laid-as, Laws.Anew.links-held, Laws.Anew.nodesTo, Laws.Sound.SoundKernel, Laws.Sound.declaration-count-is, Laws.Sound.node-count-is, Laws.Sound.node-is, Laws.Sound.nodes-flagged, Laws.Sound.nodes-laid}
 use Rattle.loops.specs.{Columns.flag}
 use Rattle.model.proofs.{Laws.Booleans.or-f-l, Laws.Booleans.or-f-r, Laws.Refusals.Passed, Theorems.Layouts.laid-out}
 
@@ -36,6 +36,10 @@ pub no-parent : (T : Tables) {q : Parent} → q ≡ Parent.None → parentPresen
 unfolding parentPresent
 no-parent T i = ap (parentPresent T) i
 
+pub no-parent-retired : (T : Tables) {q : Parent} → q ≡ Parent.None → parentRetired T q ≡ false
+unfolding parentRetired
+no-parent-retired T i = ap (parentRetired T) i
+
 module _ {S : Sizes} {k : Layout} (K : SoundKernel S k) where
   abbrev D : List Declaration
   D = take (k .declarationCount) (k .declarations)
@@ -45,6 +49,10 @@ module _ {S : Sizes} {k : Layout} (K : SoundKernel S k) where
   pub own-is : {r : Bool} (id : ℕ) (p : Port) → r ≡ any (isDeclaration id p true) (take (k .declarationCount) (k .declarations)) → own (tablesOf k) id p ≡ r
   unfolding tablesOf
   own-is id p h = sym h
+
+  pub parent-retired-is : {q : Parent} {p : ℕ} → q ≡ Parent.Of p → parentRetired (tablesOf k) q ≡ (getD (k .nodes) p blankNode) .retired
+  unfolding parentRetired
+  parent-retired-is {q} {p} i = ap (parentRetired (tablesOf k)) i ∙ ap (λ (n : Node). n .retired) (node-is K p)
 
   -- by the column of who is present
   module _ {fs : List Bool} (f : fs ≡ map (λ (n : Node). n .present) (k .nodes)) where
@@ -159,7 +167,7 @@ module _ {S : Sizes} {k : Layout} (K : SoundKernel S k) {ds ps : PortList} where
 
   -- the one line that reads the row by place
   pub insertable : (q : Parent) → length (ds .ports) ≡ listLimit → length (ps .ports) ≡ listLimit → Passed (insertTests S (tablesOf k) q ds ps) → Insertable S k ds ps
-  insertable q d p (long, (full, (_, (_, (sum, _))))) =
+  insertable q d p (long, (full, (_, (_, (_, (sum, _)))))) =
       let s = both-short {ds = ds} {ps = ps} d p long in
       let free : length ((tablesOf k) .nodes) < S .identities = leb-false _ _ full in
       let fits : length ((tablesOf k) .declarations) + length (listed ds) + length (listed ps) ≤ S .declarations = ltb-false _ _ sum in

@@ -1,7 +1,7 @@
 -- Tests in order: those that all passed, and the first that applies.
-use Rattle.model.proofs.Logic.{Bool, Option, [], _++_, _∷_, _≡_, arith, false, none, refl, some, true, ℕ}
-use Rattle.model.specs.{Answers.checked, Commands.Command, Commands.Step, Commands.report, Commands.result, Commands.settle, Commands.step, Commands.tests, Lists.all, Refusals.Reply, Refusals.Tests, Refusals.accepted, Refusals.first, Sizes.Sizes, Tables.Tables, declared.Answer.Answer, declared.Error.Error}
-use Rattle.model.proofs.{Laws.Booleans.and-l, Laws.Booleans.and-r}
+use Rattle.model.proofs.Logic.{Bool, Option, [], _++_, _∙_, _↔_, _∷_, _≡_, _⊎_, ap, arith, eq-eqb, eqb, false, inl, inr, none, not, refl, some, sym, true, ℕ, ⊎-elim}
+use Rattle.model.specs.{Answers.checked, Commands.Command, Commands.Step, Commands.report, Commands.result, Commands.settle, Commands.step, Commands.tests, Lists.all, Refusals.Reply, Refusals.Tests, Refusals.accepted, Refusals.first, Refusals.number, Sizes.Sizes, Tables.Tables, declared.Answer.Answer, declared.Error.Error}
+use Rattle.model.proofs.{Laws.Booleans.and-l, Laws.Booleans.and-r, Laws.Booleans.clash}
 
 -- no test of a row applies, by place
 abbrev pub Passed : Tests → Type 0
@@ -84,6 +84,36 @@ first-among (t ∷ ts) e f h q = go (t .0) refl (λ x. first-among ts e f (and-r
     go : (b : Bool) → t .0 ≡ b → (first ts ≡ some e → f e ≡ true) → f e ≡ true
     go true x g = let y : t .1 ≡ e = cc (rw x at q) in rw y at (and-l (f (t .1)) _ h)
     go false x g = g (rw x at q)
+
+-- no test of a row gives this refusal
+abbrev pub without : Error → Tests → Bool
+without x ts = all (λ (t : Bool × Error). not (eqb (number (t .1)) (number x))) ts
+
+-- a refusal that one test of a row alone gives: it applies, and none before it does
+pub refused-at : (ts : Tests) (b : Bool) (x : Error) (us : Tests) → without x ts ≡ true → without x us ≡ true → (first (ts ++ ((b, x) ∷ us)) ≡ some x) ↔ (Passed ts × (b ≡ true))
+unfolding all first
+refused-at ts b x us no-earlier no-later = (at ts no-earlier, λ (p, h). passed-first ts ((b, x) ∷ us) p ∙ stop b x us h)
+  where
+    itself : (C : Type 0) → not (eqb (number x) (number x)) ≡ true → C
+    itself C h = clash _ h (ap not (eq-eqb (number x) (number x) refl))
+
+    here : (c : Bool) → b ≡ c → first ((b, x) ∷ us) ≡ some x → Unit {0} × (b ≡ true)
+    here true e h = (tt, e)
+    here false e h = itself _ (first-among us x (λ (y : Error). not (eqb (number y) (number x))) no-later (sym (skip b x us e) ∙ h))
+
+    at : (vs : Tests) → without x vs ≡ true → first (vs ++ ((b, x) ∷ us)) ≡ some x → Passed vs × (b ≡ true)
+    at [] o h = here b refl h
+    at (v ∷ vs) o h = go (v .0) refl (λ q. at vs (and-r (not (eqb (number (v .1)) (number x))) _ o) q)
+      where
+        go : (c : Bool) → v .0 ≡ c → (first (vs ++ ((b, x) ∷ us)) ≡ some x → Passed vs × (b ≡ true)) → Passed (v ∷ vs) × (b ≡ true)
+        go true e f = let y : v .1 ≡ x = cc (rw e at h) in itself _ (rw y at (and-l (not (eqb (number (v .1)) (number x))) _ o))
+        go false e f = let (p, z) = f (rw e at h) in ((e, p), z)
+
+-- a refusal that a later test gives too: this one applies, or the others refuse so
+pub refused-ahead : (b : Bool) (x : Error) (us : Tests) → (first ((b, x) ∷ us) ≡ some x) ↔ ((b ≡ true) ⊎ (first us ≡ some x))
+unfolding first
+refused-ahead true x us = (λ h. inl refl, λ h. refl)
+refused-ahead false x us = (λ h. inr h, λ h. ⊎-elim (λ e. clash false e refl) (λ e. e) h)
 
 -- what a command replies when no test applies is no refusal
 pub report-accepts : (T : Tables) (c : Command) → accepted (report T c) ≡ true

@@ -119,6 +119,6 @@ module _ (S : Sizes) (T : Tables) where
       cov d (inr m) p a b = let c : notInactive ms id ≡ true = rw ((is-new d m) .0) at b in clash _ c (new-idle par)
 
   pub inserted-sound : (q : Parent) (ds ps : PortList) → Sound S T → Passed (insertTests S T q ds ps) → Sound S (inserted T q ds ps)
-  inserted-sound q ds ps k p =
-      let free = or-f-r (not (distinct (listed ds)) || not (distinct (listed ps))) (any (taken T) (listed ps)) (p .1 .1 .1 .0) in
-      add-node q (listed ds) (listed ps) k (leb-false _ _ (p .1 .0)) (not-f _ (p .1 .1 .0)) free (ltb-false _ _ (p .1 .1 .1 .1 .0))
+  inserted-sound q ds ps k (_, (slot, (parent, (_, (clear, (sum, _)))))) =
+      let free = or-f-r (not (distinct (listed ds)) || not (distinct (listed ps))) (any (taken T) (listed ps)) clear in
+      add-node q (listed ds) (listed ps) k (leb-false _ _ slot) (not-f _ parent) free (ltb-false _ _ sum)

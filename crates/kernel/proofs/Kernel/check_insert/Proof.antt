@@ -1,11 +1,11 @@
 -- `kernel::Kernel::check_insert` meets its contract.
-use Rattle.model.proofs.Logic.{Bool, [], _&&_, _+_, _||_, _∙_, _∷_, _≡_, _≤_, ap, arith, le-leb, le-ltb, leb, length, lt-leb, lt-ltb, ltb, map, needs, not, not-false, not-true, some, sym, true, ⊎-elim}
-use Rattle.layouts.proofs.{Laws.Declarations.Short, Laws.Declarations.both-short, Laws.Declarations.clashes-are, Laws.Declarations.declared-count, Laws.Declarations.no-parent, Laws.Declarations.parent-is, Laws.Rows.row-damaged, Laws.Rows.row-passes, Laws.Rows.row-refuses, Laws.Sound.SoundKernel, Laws.Sound.laid, Laws.Sound.node-count-is, Laws.Sound.tested-sound}
-use Rattle.model.specs.{Sizes.listLimit, Answers.answer, Insertion.checkInsert, Insertion.clashes, Insertion.insertTests, Insertion.parentPresent, Interface.listed, Interface.tooLong, Layouts.tablesOf, Refusals.Reply, Refusals.Tests, Refusals.first, Tables.Tables, declared.Answer.Answer, declared.Error.Error, declared.records.Node.Node}
+use Rattle.model.proofs.Logic.{Bool, [], _&&_, _+_, _<_, _||_, _∙_, _∷_, _≡_, _≤_, ap, arith, false, le-leb, le-ltb, leb, length, lt-leb, lt-ltb, ltb, ltb-true, map, needs, not, not-false, not-true, some, sym, true, ⊎-elim}
+use Rattle.layouts.proofs.{Laws.Declarations.Short, Laws.Declarations.both-short, Laws.Declarations.clashes-are, Laws.Declarations.declared-count, Laws.Declarations.no-parent, Laws.Declarations.no-parent-retired, Laws.Declarations.parent-is, Laws.Declarations.parent-retired-is, Laws.Rows.row-damaged, Laws.Rows.row-passes, Laws.Rows.row-refuses, Laws.Sound.SoundKernel, Laws.Sound.laid, Laws.Sound.node-count-is, Laws.Sound.tested-sound}
+use Rattle.model.specs.{Sizes.listLimit, Answers.answer, Insertion.checkInsert, Insertion.clashes, Insertion.insertTests, Insertion.parentPresent, Insertion.parentRetired, Interface.listed, Interface.tooLong, Layouts.tablesOf, Refusals.Reply, Refusals.Tests, Refusals.first, Tables.Tables, declared.Answer.Answer, declared.Error.Error, declared.records.Node.Node}
 use Rattle.scans.specs.{declared.NodeFlags.NodeFlags}
 use Rattle.kernel.proofs.{Kernel.check_insert.Statement.statement, Laws.Rows.insertion-row, Laws.Lengths.list-sized, Laws.Lengths.sized}
 use Rattle.kernel.specs.{Fields.ask, Fields.layoutOf, Outcomes.answerOf}
-use Rattle.model.proofs.{Laws.Refusals.of-passed, Laws.Refusals.skip, Laws.Refusals.stop}
+use Rattle.model.proofs.{Laws.Booleans.and-l, Laws.Refusals.of-passed, Laws.Refusals.skip, Laws.Refusals.stop}
 use Rattle.sizes.specs.{Sizes.DECLARATIONS, Sizes.IDENTITIES, Sizes.sizes}
 use Rattle.kernel.proofs.Kernel.check_insert.Tie as tie
 
@@ -64,7 +64,21 @@ module _ (p : tie.After-present) where
   flagged : f .node-flags .result .present ≡ map (λ (n : Node). n .present) (s (e at) .args .self .nodes)
   flagged = ap (λ (x : NodeFlags). x .present) (f .node-flags .ensures)
 
--- past the parent's test
+-- a parent that is given
+module _ (l : tie.After-flag-at) where
+  abbrev given : tie.After-parent
+  given = l .before .before .before
+
+  abbrev to : tie.Else3
+  to = at (given .before .before)
+
+  there : parentPresent (T (e to)) (s (e to) .args .parent) ≡ l .flag-at .result
+  there = parent-is (K (e to)) (flagged (given .before .before)) (given .parent .given .1) (l .flag-at .ensures)
+
+  below : not (l .flag-at .result) ≡ false → given .parent .given .0 .0 < IDENTITIES
+  below h = ltb-true _ _ (and-l _ _ (sym (l .flag-at .ensures) ∙ not-false _ h))
+
+-- past the parent's tests
 module _ (m : tie.At-match-came) where
   abbrev here : tie.Else3
   here = at (m .before)
@@ -72,13 +86,17 @@ module _ (m : tie.At-match-came) where
   parent : parentPresent (T (e here)) (s (e here) .args .parent) ≡ true
   parent = ⊎-elim (λ w. parent-is (K (e here)) (flagged (m .before)) (w .1 .given .1) (sym (not-false _ (w .5 .left)) ∙ w .4 .ensures)) (λ w. no-parent (T (e here)) (w .1 .given .1)) (m .match .came)
 
+  not-retired : parentRetired (T (e here)) (s (e here) .args .parent) ≡ false
+  not-retired = ⊎-elim (λ w. parent-retired-is (K (e here)) (w .1 .given .1) ∙ w .7 .left) (λ w. no-parent-retired (T (e here)) (w .1 .given .1)) (m .match .came)
+
   abbrev tests : Tests → Tests
   tests us =
       let a = s (e here) .args in
-      (tooLong (a .dependencies) || tooLong (a .provisions), Error.Capacity) ∷ (leb IDENTITIES (length (T (e here) .nodes)), Error.Capacity) ∷ (not (parentPresent (T (e here)) (a .parent)), Error.Unknown) ∷ us
+      (tooLong (a .dependencies) || tooLong (a .provisions), Error.Capacity) ∷ (leb IDENTITIES (length (T (e here) .nodes)), Error.Capacity)
+      ∷ (not (parentPresent (T (e here)) (a .parent)), Error.Unknown) ∷ (parentRetired (T (e here)) (a .parent), Error.Retired) ∷ us
 
   to-clash : (us : Tests) → first (tests us) ≡ first us
-  to-clash us = to-parent here _ ∙ skip _ _ _ (ap not parent)
+  to-clash us = to-parent here _ ∙ skip _ _ _ (ap not parent) ∙ skip _ _ _ not-retired
 
 -- both lists scanned
 module _ (d : tie.After-distinct-ports) where
@@ -106,25 +124,27 @@ returns-3 : tie.Need-returns-3
 returns-3 c = refuses (c .before .before) (skip _ _ _ (c .before .if2 .left) ∙ stop _ _ _ (full (c .before .before) (le-leb _ _ (c .if3 .taken))))
 
 returns-4 : tie.Need-returns-4
-returns-4 c =
-    let t = c .before .before .before in
-    let p = t .before .before .before in
-    let r = at p in
-    let absent = parent-is (K (e r)) (flagged p) (t .before .parent .given .1) (sym (not-true _ (c .if4 .taken)) ∙ c .before .flag-at .ensures) in
-    refuses (e r) (to-parent r _ ∙ stop _ _ _ (ap not absent))
+returns-4 c = let l = c .before in refuses (e (to l)) (to-parent (to l) _ ∙ stop _ _ _ (ap not (there l) ∙ c .if4 .taken))
 
 returns-5 : tie.Need-returns-5
-returns-5 c = let d = c .before in refuses (e (q d)) (to-clash (came d) _ ∙ stop _ _ _ (clash d (c .if5 .taken)))
+returns-5 c =
+    let g = c .before .before in
+    let l = g .before in
+    let marked = parent-retired-is (K (e (to l))) (given l .parent .given .1) ∙ c .if5 .taken in
+    refuses (e (to l)) (to-parent (to l) _ ∙ skip _ _ _ (ap not (there l) ∙ g .if4 .left) ∙ stop _ _ _ marked)
 
 returns-6 : tie.Need-returns-6
-returns-6 c =
-    let d = c .before .before in
-    refuses (e (q d)) (to-clash (came d) _ ∙ skip _ _ _ (clash d (c .before .if5 .left)) ∙ stop _ _ _ (sum (q d) (lt-ltb _ _ (c .if6 .taken))))
+returns-6 c = let d = c .before in refuses (e (q d)) (to-clash (came d) _ ∙ stop _ _ _ (clash d (c .if6 .taken)))
 
 returns-7 : tie.Need-returns-7
 returns-7 c =
     let d = c .before .before in
-    let passed = to-clash (came d) _ ∙ skip _ _ _ (clash d (c .before .if5 .left)) ∙ skip _ _ _ (sum (q d) (le-ltb _ _ (c .if6 .left))) ∙ of-passed [] tt in
+    refuses (e (q d)) (to-clash (came d) _ ∙ skip _ _ _ (clash d (c .before .if6 .left)) ∙ stop _ _ _ (sum (q d) (lt-ltb _ _ (c .if7 .taken))))
+
+returns-8 : tie.Need-returns-8
+returns-8 c =
+    let d = c .before .before in
+    let passed = to-clash (came d) _ ∙ skip _ _ _ (clash d (c .before .if6 .left)) ∙ skip _ _ _ (sum (q d) (le-ltb _ _ (c .if7 .left))) ∙ of-passed [] tt in
     row-passes (K (e (q d))) (row (s (e (q d)))) passed ∙ sym (as-row (s (e (q d))))
 
 pub check-insert-spec : {M : Type 1} → statement M
@@ -135,9 +155,11 @@ check-insert-spec = tie.close (tie.spec
     returns-3
     (λ c κs. search needs) (λ c. search needs) (λ c κs. search needs)  -- node-flags-requires, enum-known-parent, flag-at-requires
     returns-4
-    (λ c. search needs) (λ c κs. search needs) (λ c κs. search needs)  -- enum-told, check-provisions-requires, distinct-ports-requires
+    (λ c. omega (arith, below (c .before) (c .if4 .left))) (λ c. below (c .before) (c .if4 .left))  -- mul-above, array-copy-out-above
     returns-5
-    (λ c. omega (arith, room (c .before)))  -- add-if6
-    (λ c. omega (arith, room (c .before)))  -- add-if6-2
+    (λ c. search needs) (λ c κs. search needs) (λ c κs. search needs)  -- enum-told, check-provisions-requires, distinct-ports-requires
     returns-6
-    returns-7)
+    (λ c. omega (arith, room (c .before)))  -- add-if7
+    (λ c. omega (arith, room (c .before)))  -- add-if7-2
+    returns-7
+    returns-8)

@@ -1,6 +1,6 @@
 -- When a command is accepted, in the words of the original's contracts.
 use Rattle.model.proofs.Logic.{Bool, List·Memᴰ, Option, [], _&&_, _+_, _<_, _||_, _↔_, _∙_, _∷_, _≡_, _≤_, _⊎_, ap, arith, eq-eqb, eqb, eqb-true, false, inl, inr, le-ltb, leb-false, leb-true, length, ltb-false, none, not, refl, some, sym, true, ℕ}
-use Rattle.model.specs.{Commands.Command, Commands.settle, Commands.step, Insertion.checkInsert, Insertion.insertTests, Insertion.inserted, Insertion.parentPresent, Interface.distinct, Interface.listed, Interface.taken, Interface.tooLong, Lifecycle.beginCleanupTests, Lifecycle.checkIteration, Lifecycle.finishCleanupTests, Lifecycle.finished, Lifecycle.iterationTests, Lifecycle.leaveIfChangedTests, Lifecycle.leaveTests, Lifecycle.phaseAt, Lifecycle.relies, Lifecycle.removeTests, Lists.all, Lists.any, Lists.isNone, Observers.cleanupStarted, Records.hasParent, Records.isChildOf, Records.isInactive, Records.isLoading, Records.isRunning, Records.isUnloading, Records.parentIn, Records.providerIn, Refusals.Reply, Refusals.accepted, Refusals.first, Refusals.orElse, Resolution.target, Sizes.Sizes, Sizes.listLimit, Soundness.sound, Tables.Tables, Tables.nodeAt, Tables.present, declared.Error.Error, declared.Parent.Parent, declared.Port.Port, declared.PortList.PortList, declared.records.Link.Link, declared.records.Node.Node}
+use Rattle.model.specs.{Commands.Command, Commands.settle, Commands.step, Insertion.checkInsert, Insertion.insertTests, Insertion.inserted, Insertion.parentPresent, Insertion.parentRetired, Interface.distinct, Interface.listed, Interface.taken, Interface.tooLong, Lifecycle.beginCleanupTests, Lifecycle.checkIteration, Lifecycle.finishCleanupTests, Lifecycle.finished, Lifecycle.iterationTests, Lifecycle.leaveIfChangedTests, Lifecycle.leaveTests, Lifecycle.phaseAt, Lifecycle.relies, Lifecycle.removeTests, Lists.all, Lists.any, Lists.isNone, Observers.cleanupStarted, Records.hasParent, Records.isChildOf, Records.isInactive, Records.isLoading, Records.isRunning, Records.isUnloading, Records.parentIn, Records.providerIn, Refusals.Reply, Refusals.accepted, Refusals.first, Refusals.orElse, Resolution.target, Sizes.Sizes, Sizes.listLimit, Soundness.sound, Tables.Tables, Tables.nodeAt, Tables.present, declared.Error.Error, declared.Parent.Parent, declared.Port.Port, declared.PortList.PortList, declared.records.Link.Link, declared.records.Node.Node}
 use Rattle.model.proofs.{Laws.Booleans.and-i, Laws.Booleans.and-l, Laws.Booleans.and-r, Laws.Booleans.clash, Laws.Booleans.not-f, Laws.Booleans.not-t, Laws.Booleans.or-f-l, Laws.Booleans.or-f-r, Laws.Pieces.refuted, Laws.Lists.any-in, Laws.Lists.in-at, Laws.Lists.none-in, Laws.Phases.loading-running, Laws.Phases.running-installed, Laws.Refusals.Passed, Laws.Refusals.skip, Laws.Refusals.step-cases, Theorems.Points.at-node, Theorems.UpdateNode.no-child, Theorems.Upstream.Frames.bindings-kept, Theorems.Upstream.Observed.Coherent, Theorems.Upstream.Observed.coherent-target, Theorems.Upstream.Replies.accepts, Theorems.Upstream.Replies.never-refused-with}
 
 -- ---- retire, leave, leave_if_changed
@@ -156,6 +156,8 @@ module _ (S : Sizes) (T : Tables) (id : ℕ) where
 
 pub record InsertEnabled (S : Sizes) (T : Tables) (q : Parent) (ds ps : PortList) : Type 0 where
   pub parent : parentPresent T q ≡ true
+  -- what the rule of retired parents adds
+  pub parent-not-retired : parentRetired T q ≡ false
   pub dependencies-distinct : distinct (listed ds) ≡ true
   pub provisions-distinct : distinct (listed ps) ≡ true
   pub admissible : (p : Port) → List·Memᴰ p (listed ps) → taken T p ≡ false
@@ -169,24 +171,25 @@ module _ (S : Sizes) (T : Tables) (q : Parent) (ds ps : PortList) where
   pub insert-accepts : (accepted ((step S T (Command.insert q ds ps)) .reply) ≡ true) ↔ InsertEnabled S T q ds ps
   insert-accepts = (
     λ h.
-        let p : Passed (insertTests S T q ds ps) = accepts S T (Command.insert q ds ps) .0 h in
-        let c : not (distinct (listed ds)) || not (distinct (listed ps)) ≡ false = or-f-l (not (distinct (listed ds)) || not (distinct (listed ps))) _ (p .1 .1 .1 .0) in
+        let (short, (slot, (there, (kept, (clear, (fits, _)))))) : Passed (insertTests S T q ds ps) = accepts S T (Command.insert q ds ps) .0 h in
+        let c : not (distinct (listed ds)) || not (distinct (listed ps)) ≡ false = or-f-l (not (distinct (listed ds)) || not (distinct (listed ps))) _ clear in
         record {
-          parent = not-f _ (p .1 .1 .0);
+          parent = not-f _ there;
+          parent-not-retired = kept;
           dependencies-distinct = not-f _ (or-f-l (not (distinct (listed ds))) _ c);
           provisions-distinct = not-f _ (or-f-r (not (distinct (listed ds))) _ c);
-          admissible = λ x m. none-in (taken T) m (or-f-r (not (distinct (listed ds)) || not (distinct (listed ps))) _ (p .1 .1 .1 .0));
-          dependencies-short = ltb-false _ _ (or-f-l (tooLong ds) _ (p .0));
-          provisions-short = ltb-false _ _ (or-f-r (tooLong ds) _ (p .0));
-          slots = leb-false _ _ (p .1 .0);
-          space = ltb-false _ _ (p .1 .1 .1 .1 .0);
+          admissible = λ x m. none-in (taken T) m (or-f-r (not (distinct (listed ds)) || not (distinct (listed ps))) _ clear);
+          dependencies-short = ltb-false _ _ (or-f-l (tooLong ds) _ short);
+          provisions-short = ltb-false _ _ (or-f-r (tooLong ds) _ short);
+          slots = leb-false _ _ slot;
+          space = ltb-false _ _ fits;
         },
     λ k.
         let slot = refuted _ (λ x. let y : S .identities ≤ length (T .nodes) = leb-true _ _ x in omega (arith, k .slots)) in
         let free = refuted (any (taken T) (listed ps)) (λ x. let (p, m, e) = any-in (taken T) (listed ps) x in clash {A = ⊥} _ e (k .admissible p m)) in
         accepts S T (Command.insert q ds ps) .1 (
           rw (le-ltb listLimit (ds .count) (k .dependencies-short), le-ltb listLimit (ps .count) (k .provisions-short)),
-          (slot, (rw (k .parent), (rw (k .dependencies-distinct, k .provisions-distinct, free), (le-ltb _ _ (k .space), tt)))),
+          (slot, (rw (k .parent), (k .parent-not-retired, (rw (k .dependencies-distinct, k .provisions-distinct, free), (le-ltb _ _ (k .space), tt))))),
         ),
   )
 
