@@ -171,11 +171,11 @@ module _ (S : Sizes) (T : Tables) (q : Parent) (ds ps : PortList) where
   pub insert-accepts : (accepted ((step S T (Command.insert q ds ps)) .reply) ≡ true) ↔ InsertEnabled S T q ds ps
   insert-accepts = (
     λ h.
-        let (short, (slot, (there, (kept, (clear, (fits, _)))))) : Passed (insertTests S T q ds ps) = accepts S T (Command.insert q ds ps) .0 h in
+        let (short, (slot, (there, (not-retired, (clear, (fits, _)))))) : Passed (insertTests S T q ds ps) = accepts S T (Command.insert q ds ps) .0 h in
         let c : not (distinct (listed ds)) || not (distinct (listed ps)) ≡ false = or-f-l (not (distinct (listed ds)) || not (distinct (listed ps))) _ clear in
         record {
           parent = not-f _ there;
-          parent-not-retired = kept;
+          parent-not-retired = not-retired;
           dependencies-distinct = not-f _ (or-f-l (not (distinct (listed ds))) _ c);
           provisions-distinct = not-f _ (or-f-r (not (distinct (listed ds))) _ c);
           admissible = λ x m. none-in (taken T) m (or-f-r (not (distinct (listed ds)) || not (distinct (listed ps))) _ clear);

@@ -15,8 +15,8 @@ module _ (S : Sizes) (T : Tables) (q : Parent) (ds ps : PortList) where
   abbrev full : Bool
   full = leb (S .identities) (length (T .nodes))
 
-  abbrev orphan : Bool
-  orphan = not (parentPresent T q)
+  abbrev absent : Bool
+  absent = not (parentPresent T q)
 
   abbrev retired : Bool
   retired = parentRetired T q
@@ -24,8 +24,8 @@ module _ (S : Sizes) (T : Tables) (q : Parent) (ds ps : PortList) where
   abbrev clashing : Bool
   clashing = clashes T ds ps
 
-  abbrev crowded : Bool
-  crowded = ltb (S .declarations) (length (T .declarations) + length (listed ds) + length (listed ps))
+  abbrev exceeded : Bool
+  exceeded = ltb (S .declarations) (length (T .declarations) + length (listed ds) + length (listed ps))
 
   abbrev refusal : Option Error
   refusal = first (insertTests S T q ds ps)
@@ -35,35 +35,35 @@ module _ (S : Sizes) (T : Tables) (q : Parent) (ds ps : PortList) where
   front = (long, Error.Capacity) ∷ (full, Error.Capacity) ∷ []
 
   abbrev behind : Tests
-  behind = (clashing, Error.Conflict) ∷ (crowded, Error.Capacity) ∷ []
+  behind = (clashing, Error.Conflict) ∷ (exceeded, Error.Capacity) ∷ []
 
-  pub check-insert-unknown : (checkInsert S T q ds ps ≡ Reply.refused Error.Unknown) ↔ ((long ≡ false) × (full ≡ false) × (orphan ≡ true))
+  pub check-insert-unknown : (checkInsert S T q ds ps ≡ Reply.refused Error.Unknown) ↔ ((long ≡ false) × (full ≡ false) × (absent ≡ true))
   unfolding checkInsert all
   check-insert-unknown =
-      let r = refused-at front orphan Error.Unknown ((retired, Error.Retired) ∷ behind) refl refl in
+      let r = refused-at front absent Error.Unknown ((retired, Error.Retired) ∷ behind) refl refl in
       (λ h. let ((l, (f, _)), o) = r .0 (or-else refusal Error.Unknown .0 h) in (l, f, o), λ (l, f, o). or-else refusal Error.Unknown .1 (r .1 ((l, (f, tt)), o)))
 
-  pub check-insert-retired : (checkInsert S T q ds ps ≡ Reply.refused Error.Retired) ↔ ((long ≡ false) × (full ≡ false) × (orphan ≡ false) × (retired ≡ true))
+  pub check-insert-retired : (checkInsert S T q ds ps ≡ Reply.refused Error.Retired) ↔ ((long ≡ false) × (full ≡ false) × (absent ≡ false) × (retired ≡ true))
   unfolding checkInsert all
   check-insert-retired =
-      let r = refused-at (front ++ ((orphan, Error.Unknown) ∷ [])) retired Error.Retired behind refl refl in
+      let r = refused-at (front ++ ((absent, Error.Unknown) ∷ [])) retired Error.Retired behind refl refl in
       (λ h. let ((l, (f, (o, _))), t) = r .0 (or-else refusal Error.Retired .0 h) in (l, f, o, t), λ (l, f, o, t). or-else refusal Error.Retired .1 (r .1 ((l, (f, (o, tt))), t)))
 
-  pub check-insert-conflict : (checkInsert S T q ds ps ≡ Reply.refused Error.Conflict) ↔ ((long ≡ false) × (full ≡ false) × (orphan ≡ false) × (retired ≡ false) × (clashing ≡ true))
+  pub check-insert-conflict : (checkInsert S T q ds ps ≡ Reply.refused Error.Conflict) ↔ ((long ≡ false) × (full ≡ false) × (absent ≡ false) × (retired ≡ false) × (clashing ≡ true))
   unfolding checkInsert all
   check-insert-conflict =
-      let r = refused-at (front ++ ((orphan, Error.Unknown) ∷ (retired, Error.Retired) ∷ [])) clashing Error.Conflict ((crowded, Error.Capacity) ∷ []) refl refl in
+      let r = refused-at (front ++ ((absent, Error.Unknown) ∷ (retired, Error.Retired) ∷ [])) clashing Error.Conflict ((exceeded, Error.Capacity) ∷ []) refl refl in
       (λ h. let ((l, (f, (o, (t, _)))), c) = r .0 (or-else refusal Error.Conflict .0 h) in (l, f, o, t, c), λ (l, f, o, t, c). or-else refusal Error.Conflict .1 (r .1 ((l, (f, (o, (t, tt)))), c)))
 
   -- where 9 comes from: a list too long, no identity left, or, with none of 1, 3 and 5, no room for the declarations
   abbrev pub Full : Type 0
-  Full = (long ≡ true) ⊎ (full ≡ true) ⊎ ((orphan ≡ false) × (retired ≡ false) × (clashing ≡ false) × (crowded ≡ true))
+  Full = (long ≡ true) ⊎ (full ≡ true) ⊎ ((absent ≡ false) × (retired ≡ false) × (clashing ≡ false) × (exceeded ≡ true))
 
   -- the tests behind the first two, of which the last alone gives 9
-  sum-refuses : (first ((orphan, Error.Unknown) ∷ (retired, Error.Retired) ∷ behind) ≡ some Error.Capacity) ↔ ((orphan ≡ false) × (retired ≡ false) × (clashing ≡ false) × (crowded ≡ true))
+  sum-refuses : (first ((absent, Error.Unknown) ∷ (retired, Error.Retired) ∷ behind) ≡ some Error.Capacity) ↔ ((absent ≡ false) × (retired ≡ false) × (clashing ≡ false) × (exceeded ≡ true))
   unfolding all
   sum-refuses =
-      let r = refused-at ((orphan, Error.Unknown) ∷ (retired, Error.Retired) ∷ (clashing, Error.Conflict) ∷ []) crowded Error.Capacity [] refl refl in
+      let r = refused-at ((absent, Error.Unknown) ∷ (retired, Error.Retired) ∷ (clashing, Error.Conflict) ∷ []) exceeded Error.Capacity [] refl refl in
       (λ h. let ((o, (t, (c, _))), s) = r .0 h in (o, t, c, s), λ (o, t, c, s). r .1 ((o, (t, (c, tt))), s))
 
   pub check-insert-capacity : (checkInsert S T q ds ps ≡ Reply.refused Error.Capacity) ↔ Full
