@@ -20,7 +20,7 @@ unfoldable pub parentPresent : Tables → Parent → Bool
 parentPresent T Parent.None = true
 parentPresent T (Parent.Of p) = present (T .nodes) p
 
--- there is a parent, and it is retired, in whatever phase
+-- there is a parent, and its node is marked retired, in whatever phase; a removed one still is, and is refused as absent before
 unfoldable pub parentRetired : Tables → Parent → Bool
 parentRetired T Parent.None = false
 parentRetired T (Parent.Of p) = (nodeAt (T .nodes) p) .retired

@@ -70,8 +70,7 @@ module _ (S : Sizes) (T : Tables) (q : Parent) (ds ps : PortList) where
   unfolding checkInsert
   check-insert-capacity =
       let a = refused-ahead long Error.Capacity _ in
-      let b = refused-ahead full Error.Capacity _ in
-      (
+      let b = refused-ahead full Error.Capacity _ in (
         λ h. ⊎-elim (λ e. inl e) (λ g. ⊎-elim (λ e. inr (inl e)) (λ f. inr (inr (sum-refuses .0 f))) (b .0 g)) (a .0 (or-else refusal Error.Capacity .0 h)),
         λ h. or-else refusal Error.Capacity .1 (a .1 (⊎-elim (λ e. inl e) (λ g. inr (b .1 (⊎-elim (λ e. inl e) (λ f. inr (sum-refuses .1 f)) g))) h)),
       )
