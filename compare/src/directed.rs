@@ -147,7 +147,7 @@ fn full() -> Vec<(String, Tables)> {
     for nodes in [IDENTITIES - 1, IDENTITIES] {
         for declarations in [DECLARATIONS - 1, DECLARATIONS] {
             for links in [LINKS - 1, LINKS] {
-                let mut kernel = provider().node(INACTIVE).node(INACTIVE).depends(1, A);
+                let mut kernel = provider().node(INACTIVE).node(INACTIVE).depends(1, A).provides(1, B_ELSEWHERE);
                 while kernel.0.nodes.len() < nodes {
                     let id = kernel.0.nodes.len();
                     kernel = if id % 2 == 0 { kernel.absent() } else { kernel.node(ACTIVE) }.retired(id % 4 > 1);

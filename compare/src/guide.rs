@@ -142,13 +142,15 @@ impl Guide {
         if node.phase != Phase::Inactive || node.generation != 0 {
             return 2;
         }
-        if self.declarations.len() + dependencies.len() > DECLARATIONS {
+        let remaining: Vec<Declaration> =
+            self.declarations.iter().filter(|d| d.owner != owner || d.provides).copied().collect();
+        if remaining.len() + dependencies.len() > DECLARATIONS {
             return 9;
         }
         if repeats(dependencies) {
             return 5;
         }
-        self.declarations.retain(|d| d.owner != owner || d.provides);
+        self.declarations = remaining;
         self.declarations.extend(dependencies.iter().map(|&port| Declaration { owner, port, provides: false }));
         0
     }

@@ -13,13 +13,15 @@ pub struct Counts {
 }
 
 /// What lib.rs had and made: its answer, the tables before and after it, the lengths of the pending dependencies and
-/// provisions, and whether the call names a parent that was present and retired.
+/// provisions, whether the call names a parent that was present and retired, and how many declarations before it are not
+/// dependencies of the component that it configures.
 pub struct Answered {
     pub own: u8,
     pub before: Counts,
     pub after: Counts,
     pub lists: [usize; 2],
     pub parent_retired: bool,
+    pub remaining: usize,
 }
 
 /// What refuses: a size that is passed, or the parent.
@@ -103,9 +105,7 @@ pub fn refuses(call: Call, a: &Answered) -> Option<Intended> {
         Call::Insert(_) if a.parent_retired => Some(Intended::RetiredParent),
         Call::Insert(_) if a.after.declarations > DECLARATIONS => Some(Intended::InsertSum),
         Call::Declare(..) if a.after.declarations > DECLARATIONS => Some(Intended::DeclareSum),
-        Call::Configure(_) if reached_the_sum && a.before.declarations + listed > DECLARATIONS => {
-            Some(Intended::ConfigureSum)
-        }
+        Call::Configure(_) if reached_the_sum && a.remaining + listed > DECLARATIONS => Some(Intended::ConfigureSum),
         Call::Begin(_) if a.after.links > LINKS => Some(Intended::Links),
         _ => None,
     }

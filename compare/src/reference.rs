@@ -95,12 +95,19 @@ impl Reference {
         matches!(call, Call::Insert(Some(parent)) if self.kernel.retired(parent))
     }
 
+    /// How many declarations are not dependencies of the component that a call configures.
+    fn remaining(&self, call: Call) -> usize {
+        let goes = |d: &Declaration| matches!(call, Call::Configure(id) if d.owner == id && !d.provides);
+        self.kernel.declarations.iter().filter(|d| !goes(d)).count()
+    }
+
     /// Makes a call; where the kernel refuses and lib.rs may not, lib.rs's step is undone.
     pub fn call(&mut self, call: Call) -> Step {
         let kernel = self.kernel.clone();
-        let (before, lists, parent_retired) = (counts(&kernel), self.listed(), self.parent_retired(call));
+        let (before, lists) = (counts(&kernel), self.listed());
+        let (parent_retired, remaining) = (self.parent_retired(call), self.remaining(call));
         let (own, detail) = self.command(call);
-        let answered = Answered { own, before, after: counts(&self.kernel), lists, parent_retired };
+        let answered = Answered { own, before, after: counts(&self.kernel), lists, parent_retired, remaining };
         let intended = intended::refuses(call, &answered);
         if intended.is_some() {
             self.kernel = kernel;
@@ -154,7 +161,8 @@ impl Reference {
         let (call, before, lists) = (Call::Insert(parent), counts(&self.kernel), self.listed());
         let declarations = before.declarations + if own == 0 { lists.iter().sum() } else { 0 };
         let after = Counts { declarations, ..before };
-        let answered = Answered { own, before, after, lists, parent_retired: self.parent_retired(call) };
+        let (parent_retired, remaining) = (self.parent_retired(call), self.remaining(call));
+        let answered = Answered { own, before, after, lists, parent_retired, remaining };
         step(own, detail, intended::refuses(call, &answered))
     }
 

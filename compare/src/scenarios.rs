@@ -84,12 +84,26 @@ fn declarations() -> Vec<u8> {
     // full: no further port, yet an empty component, and each refusal that stands before the sum
     s.root(&[], &[]).root(&[P], &[]).begin(5).configure(5, &[P]).add(Command::Retire(3)).configure(3, &[P, P]);
     s.insert(3, &[P], &[]).insert(3, &[P, P], &[]).insert(4, &[P, P], &[]).insert(4, &[P], &[]);
-    s.configure(9, &[P, P]).configure(0, &[P, P]).configure(0, &[]);
-    // 224: the sum counts the dependencies that go
-    s.configure(1, &ports(50, LIST)).add(Command::Declare(4, port(700, 1))).configure(1, &ports(50, LIST));
-    s.configure(1, &ports(50, LIST - 1)).add(Command::Retire(2)).add(Command::Remove(2)).configure(1, &ports(60, LIST));
-    s.add(Command::CompactDeclarations).configure(1, &ports(60, LIST)).add(Command::Release(3, port(301, 1)));
+    s.configure(9, &[P, P]);
+    replaced(&mut s);
     s.log
+}
+
+/// The same full table: configure replaces 4's one dependency, 0's 32 and the none of 6, and counts the provisions of 0 and 4.
+fn replaced(s: &mut Script) {
+    let repeated = |count: usize| [ports(50, count - 1), ports(50, 1)].concat();
+    s.configure(4, &[P]).configure(4, &ports(50, 2)).configure(4, &[P, P]);
+    s.configure(0, &ports(50, LIST)).configure(0, &repeated(LIST)).configure(0, &[P, P]);
+    s.root(&[], &[]).configure(6, &[]).configure(6, &[P]).configure(6, &[P, P]);
+    // 224, then 225: 31 more fit
+    s.configure(0, &[]).configure(1, &ports(50, LIST)).add(Command::Declare(4, port(700, 1)));
+    s.configure(0, &ports(60, LIST)).configure(0, &ports(60, LIST - 1));
+    // full with 31 of 0's
+    s.configure(0, &ports(70, LIST)).configure(0, &repeated(LIST)).configure(0, &repeated(LIST - 1));
+    s.configure(0, &ports(70, LIST - 1)).configure(0, &ports(70, LIST + 1));
+    // what a removed owner declared counts until it is compacted
+    s.add(Command::Retire(2)).add(Command::Remove(2)).configure(0, &ports(60, LIST));
+    s.add(Command::CompactDeclarations).configure(0, &ports(60, LIST)).add(Command::Release(3, port(301, 1)));
 }
 
 fn links() -> Vec<u8> {

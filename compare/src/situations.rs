@@ -13,7 +13,7 @@ pub struct Seen<'a> {
 /// A situation's name, and whether a command met it.
 pub type Situation = (&'static str, fn(&Seen) -> bool);
 
-pub const SITUATIONS: [Situation; 19] = [
+pub const SITUATIONS: [Situation; 23] = [
     ("begin done, bound to a retired provider", |s| {
         begun(s) && s.added_links().any(|provider| s.before.nodes[provider as usize].retired == 1)
     }),
@@ -49,9 +49,20 @@ pub const SITUATIONS: [Situation; 19] = [
             .iter()
             .any(|d| d.provides == 1 && s.tombstone(d.key, d.realm))
     }),
-    ("configure done that drops dependencies", |s| {
-        let own = |id: u8| s.before.declarations.iter().any(|d| d.owner == u64::from(id) && d.provides == 0);
-        s.after.answer == 0 && matches!(s.command, Command::Configure(id) if own(id))
+    ("configure done that drops dependencies", |s| configured(s, 0) && s.own_dependencies(s.before) > 0),
+    ("configure done, the declarations before it and its list over 256", |s| {
+        configured(s, 0) && s.before.declarations.len() + s.own_dependencies(s.after) > DECLARATIONS
+    }),
+    ("configure done of a component with dependencies and provisions, 256 declarations after it", |s| {
+        let full = s.after.declarations.len() == DECLARATIONS;
+        configured(s, 0) && full && s.own_dependencies(s.before) > 0 && s.own_provisions() > 0
+    }),
+    ("configure refused 9 of a component with dependencies and provisions", |s| {
+        configured(s, 9) && s.own_dependencies(s.before) > 0 && s.own_provisions() > 0
+    }),
+    ("configure refused 5 of a component with dependencies at 256 declarations", |s| {
+        let full = s.before.declarations.len() == DECLARATIONS;
+        configured(s, 5) && full && s.own_dependencies(s.before) > 0
     }),
     ("insert refused 3 under an Inactive parent", |s| insert_under(s, 3, |n| n.phase == INACTIVE)),
     ("insert refused 3 under a Loading parent", |s| insert_under(s, 3, |n| n.phase == LOADING)),
@@ -76,6 +87,10 @@ fn begun(s: &Seen) -> bool {
     matches!(s.command, Command::Begin(_)) && s.after.answer == 0
 }
 
+fn configured(s: &Seen, answer: u8) -> bool {
+    matches!(s.command, Command::Configure(_)) && s.after.answer == answer
+}
+
 /// An insert with this answer whose parent's node is such.
 fn insert_under(s: &Seen, answer: u8, such: fn(&Node) -> bool) -> bool {
     let Command::Insert(parent) = s.command else { return false };
@@ -91,6 +106,21 @@ impl Seen<'_> {
 
     fn retired(&self) -> bool {
         self.node().is_some_and(|n| n.retired == 1)
+    }
+
+    /// How many dependencies the component that the command names has in these tables.
+    fn own_dependencies(&self, tables: &Record) -> usize {
+        self.declared(tables, 0)
+    }
+
+    /// How many provisions it had.
+    fn own_provisions(&self) -> usize {
+        self.declared(self.before, 1)
+    }
+
+    fn declared(&self, tables: &Record, provides: u8) -> usize {
+        let Some(id) = self.command.identity() else { return 0 };
+        tables.declarations.iter().filter(|d| d.owner == u64::from(id) && d.provides == provides).count()
     }
 
     /// The providers of the links that the command added.

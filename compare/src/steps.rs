@@ -1,9 +1,9 @@
 //! The generator's steps, each one or a few commands.
 use crate::generator::Generator;
 use crate::guide::Phase;
-use crate::log::{Command, Port, NONE};
+use crate::log::{Command, Port, LIST, NONE};
 use crate::script::port;
-use crate::sizes::LINKS;
+use crate::sizes::{DECLARATIONS, LINKS};
 
 impl Generator<'_> {
     pub fn blind(&mut self) {
@@ -97,18 +97,27 @@ impl Generator<'_> {
         }
     }
 
-    /// configure of a component that never began, else of the one given.
+    /// configure of a component that never began, else of the one given; where the table is nearly full, half the lists
+    /// just fit or just do not.
     fn configure(&mut self, otherwise: u8) {
         let mut unstarted = self.in_phase(Phase::Inactive);
         unstarted.retain(|&i| self.guide.nodes[i].generation == 0);
-        let length = self.length(self.profile.dependencies);
-        self.lists(length, 0);
-        if self.random.chance(5) {
+        let id = self.random.pick(&unstarted).map_or(otherwise, |i| i as u8);
+        let remaining = self.guide.declarations.iter().filter(|d| d.owner != usize::from(id) || d.provides).count();
+        let free = DECLARATIONS - remaining;
+        let near = free < LIST && self.random.chance(50);
+        if near {
+            let length = (free + self.random.below(3)).saturating_sub(1);
+            (0..length as u64).for_each(|key| self.add(Command::Dependency(port(key, 1))));
+        } else {
+            let length = self.length(self.profile.dependencies);
+            self.lists(length, 0);
+        }
+        if self.random.chance(if near { 30 } else { 5 }) {
             // a list that repeats a port
             let repeated = self.guide.dependencies.last().copied().unwrap_or(port(1, 1));
             self.add(Command::Dependency(repeated));
         }
-        let id = self.random.pick(&unstarted).map_or(otherwise, |i| i as u8);
         self.add(Command::Configure(id));
     }
 

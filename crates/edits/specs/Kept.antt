@@ -7,8 +7,8 @@ use Rattle.edits.specs.declared.KeptLinks.{KeptLinks}
 use Rattle.edits.specs.declared.Rule.{Rule}
 use Rattle.model.specs.declared.records.Declaration.{Declaration}
 use Rattle.model.specs.declared.records.Link.{Link}
+use Rattle.model.specs.Interface.{remains}
 use Rattle.model.specs.Records.{blankDeclaration, blankLink, ownerIn}
-use Rattle.model.specs.Resolution.{isDependencyOf}
 use Rattle.model.specs.Soundness.{isDeclaration}
 use Rattle.loops.specs.Columns.{flag}
 use Rattle.sizes.specs.Sizes.{DECLARATIONS, IDENTITIES, LINKS}
@@ -23,4 +23,4 @@ keptLinks = counted (λ ls n. record { links = ls; count = n }) LINKS blankLink
 abbrev pub keeping : List Bool → Rule → Declaration → Bool
 keeping present Rule.Owned d = flag IDENTITIES present (ownerIn d)
 keeping present (Rule.Released id port) d = not (isDeclaration id port true d)
-keeping present (Rule.Configured id) d = not (isDependencyOf id d)
+keeping present (Rule.Configured id) d = remains id d

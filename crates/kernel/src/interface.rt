@@ -2,8 +2,7 @@
 ghost use mathlib.Core.Path.{_≡_};
 ghost use Rattle.kernel.specs.Outcomes.{Returns, answerOf};
 ghost use Rattle.model.specs.Commands.{Command};
-ghost use Rattle.model.specs.Interface.{configureTests, releaseProvisionTests};
-ghost use Rattle.sizes.specs.Sizes.{sizes};
+ghost use Rattle.model.specs.Interface.{configurableTests, releaseProvisionTests};
 use crate::Kernel;
 use crate::Outcome;
 use crate::ports::append_ports;
@@ -87,7 +86,7 @@ impl Kernel {
     pub fn configure_pending_dependencies(mut self, id: usize, list: PortList) -> Outcome
         ensures { λ r. ⌜ Returns self (Command.configurePendingDependencies id list) r ⌝ }
     {
-        let answer = self.check_configure_pending_dependencies(id, list);
+        let mut answer = self.check_configurable(id, list);
         if let Answer::Done = answer {
             let declarations = self.declarations;
             let count = self.declaration_count;
@@ -96,9 +95,16 @@ impl Kernel {
             let kept = edits::kept_declarations(declarations, count, unread, rule);
             let rest = kept.declarations;
             let n = kept.count;
-            let all = append_ports(rest, n, id, list, false);
-            self.declarations = all;
-            self.declaration_count = n + list.count;
+            let sum = n + list.count;
+            if DECLARATIONS < sum {
+                answer = Answer::Refused(Error::Capacity);
+            } else if !loops::distinct_ports(list) {
+                answer = Answer::Refused(Error::Conflict);
+            } else {
+                let all = append_ports(rest, n, id, list, false);
+                self.declarations = all;
+                self.declaration_count = sum;
+            }
         }
         Outcome {
             kernel: self,
@@ -106,30 +112,18 @@ impl Kernel {
         }
     }
 
-    // What configure_pending_dependencies answers.
-    fn check_configure_pending_dependencies(self, id: usize, list: PortList) -> Answer
-        ensures { λ r. ⌜ r ≡ answerOf self (λ T. configureTests sizes T id list) ⌝ }
+    // What configure_pending_dependencies answers before it reads the declarations.
+    fn check_configurable(self, id: usize, list: PortList) -> Answer
+        ensures { λ r. ⌜ r ≡ answerOf self (λ T. configurableTests T id list) ⌝ }
     {
         let entry = self.entry(id);
         if !entry.sound {
             return Answer::Refused(Error::Damaged);
         }
-        let more = list.count;
-        if 32 < more {
+        if 32 < list.count {
             return Answer::Refused(Error::Capacity);
         }
         let node = entry.node;
-        let checked = records::checks::check(Row::Configure, node);
-        if let Answer::Refused(error) = checked {
-            return Answer::Refused(error);
-        }
-        let count = self.declaration_count;
-        if DECLARATIONS < more + count {
-            return Answer::Refused(Error::Capacity);
-        }
-        if !loops::distinct_ports(list) {
-            return Answer::Refused(Error::Conflict);
-        }
-        Answer::Done
+        records::checks::check(Row::Configure, node)
     }
 }

@@ -89,11 +89,22 @@ provisionReleased T id p = withDeclarations T (keep (λ d. not (isDeclaration id
 abbrev pub configureNodeTests : Node → Tests
 configureNodeTests n = absent n ∷ (n .retired, Error.Retired) ∷ (not (isPending n), Error.InvalidState) ∷ []
 
+-- tested before any declaration is read: of the list's length and of the component's node
+abbrev pub configurableTests : Tables → ℕ → PortList → Tests
+configurableTests T id l = (tooLong l, Error.Capacity) ∷ configureNodeTests (nodeAt (T .nodes) id)
+
+-- the declarations that remain: all but the component's dependencies
+abbrev pub remains : ℕ → Declaration → Bool
+remains id d = not (isDependencyOf id d)
+
+abbrev pub remaining : Tables → ℕ → List Declaration
+remaining T id = keep (remains id) (T .declarations)
+
 abbrev pub configureTests : Sizes → Tables → ℕ → PortList → Tests
 configureTests S T id l =
-    let full = ltb (S .declarations) (length (listed l) + length (T .declarations)) in
-    (tooLong l, Error.Capacity) ∷ (configureNodeTests (nodeAt (T .nodes) id) ++ ((full, Error.Capacity) ∷ (not (distinct (listed l)), Error.Conflict) ∷ []))
+    let full = ltb (S .declarations) (length (remaining T id) + length (listed l)) in
+    configurableTests T id l ++ ((full, Error.Capacity) ∷ (not (distinct (listed l)), Error.Conflict) ∷ [])
 
--- drops the owner's dependencies, then appends the list in order
+-- what remains, then the list in order
 abbrev pub dependenciesConfigured : Tables → ℕ → PortList → Tables
-dependenciesConfigured T id l = withDeclarations T (keep (λ d. not (isDependencyOf id d)) (T .declarations) ++ map (dependency id) (listed l))
+dependenciesConfigured T id l = withDeclarations T (remaining T id ++ map (dependency id) (listed l))

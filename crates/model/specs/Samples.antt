@@ -187,15 +187,25 @@ orders =
     refuses (Command.insert Parent.None noPorts (portList (A ∷ B ∷ C ∷ P ∷ []))) Error.Conflict ∷
     calls (Command.insert Parent.None (only P) noPorts) (Reply.issued 1) ∷
     calls (Command.insert (Parent.Of 0) noPorts noPorts) (Reply.issued 2) ∷
-    -- configure: list before identity, sum before repeat
+    -- configure: list before identity, sum before repeat; the sum counts another's dependencies and the component's provisions
     refuses (Command.configurePendingDependencies 9 tooMany) Error.Capacity ∷
     refuses (Command.configurePendingDependencies 2 (portList (A ∷ A ∷ B ∷ []))) Error.Capacity ∷
+    refuses (Command.configurePendingDependencies 0 (portList (A ∷ A ∷ B ∷ []))) Error.Capacity ∷
+    -- and not the component's dependencies: at a full table as many again, with a repeat and without, and one more
+    calls (Command.configurePendingDependencies 1 (portList (A ∷ B ∷ C ∷ []))) Reply.done ∷
+    refuses (Command.configurePendingDependencies 1 (portList (A ∷ B ∷ B ∷ []))) Error.Conflict ∷
+    refuses (Command.configurePendingDependencies 1 (portList (A ∷ B ∷ B ∷ C ∷ []))) Error.Capacity ∷
+    calls (Command.configurePendingDependencies 1 (portList (C ∷ B ∷ A ∷ []))) Reply.done ∷
+    -- of none: one, and none
+    refuses (Command.configurePendingDependencies 0 (only A)) Error.Capacity ∷
+    calls (Command.configurePendingDependencies 0 noPorts) Reply.done ∷
+    calls (Command.configurePendingDependencies 1 (only P)) Reply.done ∷
     calls (Command.begin 0) Reply.done ∷
     calls (Command.finish 0) Reply.done ∷
     calls (Command.begin 1) Reply.done ∷
     calls (Command.finish 1) Reply.done ∷
     -- phase before sum, links, children, target
-    refuses (Command.configurePendingDependencies 1 (portList (A ∷ A ∷ B ∷ []))) Error.InvalidState ∷
+    refuses (Command.configurePendingDependencies 1 (portList (A ∷ A ∷ B ∷ C ∷ []))) Error.InvalidState ∷
     refuses (Command.beginCleanup 0) Error.InvalidState ∷
     refuses (Command.remove 0) Error.InvalidState ∷
     refuses (Command.leaveIfChanged 2) Error.InvalidState ∷

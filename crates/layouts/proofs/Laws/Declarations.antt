@@ -1,7 +1,8 @@
 -- Declarations of a sound kernel: what scans of its arrays find, and one list or record behind them.
 use Rattle.model.proofs.Logic.{Bool, List, [], _&&_, _++_, _+_, _<_, _||_, _∙_, _∷_, _≡_, _≤_, ap, append-assoc, arith, cond, false, getD, leb-false, length, length-map, length-take-le, ltb-false, map, not, refl, set, sym, take, true, ℕ}
-use Rattle.model.specs.{Insertion.clashes, Insertion.insertTests, Insertion.inserted, Insertion.parentPresent, Insertion.parentRetired, Interface.configureTests, Interface.dependenciesConfigured, Interface.distinct, Interface.listed, Interface.own, Interface.provisionDeclared, Interface.taken, Interface.takenBy, Interface.tooLong, Layouts.Layout, Layouts.layOut, Layouts.tablesOf, Lists.any, Lists.keep, Lists.padded, Records.blankDeclaration, Records.blankNode, Records.dependency, Records.newNode, Records.provision, Resolution.isDependencyOf, Sizes.Sizes, Sizes.listLimit, Soundness.isDeclaration, Tables.Tables, Tables.present, Tables.withDeclarations, declared.Parent.Parent, declared.Port.Port, declared.PortList.PortList, declared.records.Declaration.Declaration, declared.records.Node.Node}
-use Rattle.layouts.proofs.{Laws.Anew.HoldsDeclarations, Laws.Anew.declarations-anew, Laws.Anew.declarations-held, Laws.Anew.declarationsTo, Laws.Anew.holds-more, Laws.Anew.holds-one, Laws.Anew.holds-padded, Laws.Anew.kept-fewer, Laws.Anew.laid-as, Laws.Anew.links-held, Laws.Anew.nodesTo, Laws.Sound.SoundKernel, Laws.Sound.declaration-count-is, Laws.Sound.node-count-is, Laws.Sound.node-is, Laws.Sound.nodes-flagged, Laws.Sound.nodes-laid}
+use Rattle.model.specs.{Insertion.clashes, Insertion.insertTests, Insertion.inserted, Insertion.parentPresent, Insertion.parentRetired, Interface.configurableTests, Interface.dependenciesConfigured, Interface.distinct, Interface.listed, Interface.own, Interface.provisionDeclared, Interface.remaining, Interface.remains, Interface.taken, Interface.takenBy, Interface.tooLong, Layouts.Layout, Layouts.Sized, Layouts.layOut, Layouts.tablesOf, Lists.any, Lists.padded, Records.blankDeclaration, Records.blankNode, Records.dependency, Records.newNode, Records.provision, Sizes.Sizes, Sizes.listLimit, Soundness.isDeclaration, Tables.Tables, Tables.present, Tables.withDeclarations, declared.Answer.Answer, declared.Parent.Parent, declared.Port.Port, declared.PortList.PortList, declared.records.Declaration.Declaration, declared.records.Node.Node}
+use Rattle.layouts.proofs.{Laws.Anew.HoldsDeclarations, Laws.Anew.declarations-anew, Laws.Anew.declarations-held, Laws.Anew.declarationsTo, Laws.Anew.holds-more, Laws.Anew.holds-one, Laws.Anew.holds-padded, Laws.Anew.kept-fewer, Laws.Anew.laid-as, Laws.Anew.links-held, Laws.Anew.nodesTo, Laws.Rows.done-row, Laws.Rows.done-sound, Laws.Sound.SoundKernel, Laws.Sound.declaration-count-is, Laws.Sound.laid, Laws.Sound.node-count-is, Laws.Sound.node-is, Laws.Sound.nodes-flagged, Laws.Sound.nodes-laid}
+use Rattle.layouts.specs.{Rows.rowAnswer}
 use Rattle.loops.specs.{Columns.flag}
 use Rattle.model.proofs.{Laws.Booleans.or-f-l, Laws.Booleans.or-f-r, Laws.Refusals.Passed, Theorems.Layouts.laid-out}
 
@@ -123,33 +124,29 @@ module _ {S : Sizes} {k : Layout} (K : SoundKernel S k) where
 
 -- ---- the dependencies of one owner replaced
 
--- what configure's tests leave room for
-pub record Configurable (S : Sizes) (k : Layout) (l : PortList) : Type 0 where
+-- a sound kernel whose row passed its tests of the list and of the node
+pub record Configurable (S : Sizes) (k : Layout) (id : ℕ) (l : PortList) : Type 0 where
   pub kernel : SoundKernel S k
+  pub tests : Passed (configurableTests (tablesOf k) id l)
   pub short : Short l
-  pub sum : l .count + k .declarationCount ≤ S .declarations
 
--- the one line that reads the row by place
-pub configurable : {S : Sizes} {k : Layout} (K : SoundKernel S k) (id : ℕ) {l : PortList} → length (l .ports) ≡ listLimit → Passed (configureTests S (tablesOf k) id l) → Configurable S k l
-configurable {S} {k} K id {l} a (long, (_, (_, (_, (sum, _))))) =
-    let s : Short l = record { array = a; within = ltb-false listLimit (l .count) long } in
-    let n : length (listed l) + length ((tablesOf k) .declarations) ≡ l .count + k .declarationCount = rw (length-listed s, declaration-count-is K) in
-    record { kernel = K; short = s; sum = rw n at (ltb-false (S .declarations) (length (listed l) + length ((tablesOf k) .declarations)) sum) }
+-- where they answered done
+pub configurable : {S : Sizes} {k : Layout} (z : Sized S k) (id : ℕ) {l : PortList} → length (l .ports) ≡ listLimit → {a : Answer} → a ≡ rowAnswer S k (λ T. configurableTests T id l) → a ≡ Answer.Done → Configurable S k id l
+configurable z id {l} n {a} e d =
+    let passed = done-row z (λ T. configurableTests T id l) a e d in
+    record { kernel = done-sound z (λ T. configurableTests T id l) a e d; tests = passed; short = record { array = n; within = ltb-false listLimit (l .count) (passed .0) } }
 
--- the declarations that stay
-abbrev pub others : Layout → ℕ → List Declaration
-others k id = keep (λ d. not (isDependencyOf id d)) (take (k .declarationCount) (k .declarations))
+module _ {S : Sizes} {k : Layout} {id : ℕ} {l : PortList} (C : Configurable S k id l) {array : List Declaration} {n : ℕ} (h : HoldsDeclarations S (remaining (tablesOf k) id) array n) where
+  -- the sum that the row tests, by the counts
+  pub configured-sum : length (remaining (tablesOf k) id) + length (listed l) ≡ n + l .count
+  configured-sum = rw (h .counted, length-listed (C .short))
 
-module _ {S : Sizes} {k : Layout} {l : PortList} (C : Configurable S k l) (id : ℕ) {array : List Declaration} {n : ℕ} (h : HoldsDeclarations S (others k id) array n) where
-  -- what is kept and the list fit
-  pub configured-fits : n + l .count ≤ S .declarations
-  unfolding tablesOf
-  configured-fits = let s = C .sum in omega (arith, kept-fewer (λ d. not (isDependencyOf id d)) (take (k .declarationCount) (k .declarations)) h (declaration-count-is (C .kernel)))
+  pub remaining-within : n ≤ S .declarations
+  remaining-within = omega (arith, kept-fewer (remains id) ((tablesOf k) .declarations) h (declaration-count-is (C .kernel)), laid (C .kernel) .declarations)
 
   pub configured-laid :
       {more : List Declaration} → more ≡ padded (S .declarations) blankDeclaration (take n array ++ map (dependency id) (listed l)) →
       layOut S (dependenciesConfigured (tablesOf k) id l) ≡ declarationsTo k more (n + l .count)
-  unfolding tablesOf
   configured-laid e = declarations-anew (C .kernel) _ (holds-more h (map (dependency id) (listed l)) e (length-map (listed l) (dependency id) ∙ length-listed (C .short)))
 
 -- ---- what insertion's tests leave room for

@@ -1,24 +1,25 @@
 -- The interface commands keep soundness.
-use Rattle.model.proofs.Logic.{Bool, List, List·Memᴰ, List·Memᴰ·append-cases, List·Memᴰ·eq-of-singleton, Memᴰ·append-left, [], _&&_, _++_, _+_, _<_, _∙_, _∷_, _≡_, _≤_, _⊎_, and-false, ap, arith, cond, eqb, false, inl, inr, leb, leb-false, length, length-append, length-map, ltb-false, map, ne-eqb, not, refl, sym, true, ℕ}
-use Rattle.model.specs.{Interface.configureTests, Interface.declareProvisionTests, Interface.dependenciesConfigured, Interface.listed, Interface.own, Interface.provisionDeclared, Interface.provisionReleased, Interface.releaseProvisionTests, Interface.reliesOn, Interface.taken, Interface.takenBy, Lists.keep, Records.consumerIn, Records.declaredPort, Records.dependency, Records.isInactive, Records.ownerIn, Records.portIn, Records.providerIn, Records.provision, Records.samePort, Resolution.isDependencyOf, Sizes.Sizes, Soundness.isDeclaration, Tables.Tables, Tables.nodeAt, Tables.notInactive, Tables.present, Tables.withDeclarations, declared.Port.Port, declared.PortList.PortList, declared.records.Declaration.Declaration, declared.records.Link.Link}
-use Rattle.model.proofs.{Laws.Booleans.and-i, Laws.Booleans.and-l, Laws.Booleans.clash, Laws.Booleans.f-not, Laws.Booleans.not-f, Laws.Facts.Linked, Laws.Facts.Sound, Laws.Facts.port-same, Laws.Lists.in-keep, Laws.Lists.in-map, Laws.Lists.keep-in, Laws.Lists.length-keep, Laws.Lists.none-in, Laws.Nodes.present-lt, Laws.Refusals.Passed, Laws.Update.LiveLinks, Laws.Update.safe-declarations, Laws.Update.sub-declarations}
+use Rattle.model.proofs.Logic.{Bool, List, List·Memᴰ, List·Memᴰ·append-cases, List·Memᴰ·eq-of-singleton, Memᴰ·append-left, [], _&&_, _++_, _+_, _<_, _∙_, _∷_, _≡_, _⊎_, and-false, ap, arith, cond, eqb, false, inl, inr, leb, leb-false, length, length-append, length-map, ltb-false, map, ne-eqb, not, refl, sym, true, ℕ}
+use Rattle.model.specs.{Interface.configureTests, Interface.declareProvisionTests, Interface.dependenciesConfigured, Interface.listed, Interface.own, Interface.provisionDeclared, Interface.provisionReleased, Interface.releaseProvisionTests, Interface.reliesOn, Interface.remaining, Interface.remains, Interface.taken, Interface.takenBy, Lists.keep, Records.consumerIn, Records.declaredPort, Records.dependency, Records.isInactive, Records.ownerIn, Records.portIn, Records.providerIn, Records.provision, Records.samePort, Resolution.isDependencyOf, Sizes.Sizes, Soundness.isDeclaration, Tables.Tables, Tables.nodeAt, Tables.notInactive, Tables.present, Tables.withDeclarations, declared.Port.Port, declared.PortList.PortList, declared.records.Declaration.Declaration, declared.records.Link.Link}
+use Rattle.model.proofs.{Laws.Booleans.and-i, Laws.Booleans.and-l, Laws.Booleans.clash, Laws.Booleans.f-not, Laws.Booleans.not-f, Laws.Facts.Linked, Laws.Facts.Sound, Laws.Facts.port-same, Laws.Lists.in-keep, Laws.Lists.in-map, Laws.Lists.keep-in, Laws.Lists.none-in, Laws.Nodes.present-lt, Laws.Refusals.Passed, Laws.Update.LiveLinks, Laws.Update.safe-declarations, Laws.Update.sub-declarations}
 
 -- no present owner provides a port that is not taken
 pub not-taken : (T : Tables) (p : Port) → taken T p ≡ false → (d : Declaration) → List·Memᴰ d (T .declarations) → d .provides ≡ true → present (T .nodes) (ownerIn d) ≡ true → declaredPort d ≡ p → ⊥
 unfolding taken takenBy
 not-taken T p h d m a b e = clash {A = ⊥} _ (and-i (d .provides && samePort (declaredPort d) p) _ (and-i (d .provides) _ a (rw e (port-same p))) b) (none-in (takenBy (present (T .nodes)) p) m h)
 
--- the declarations that a configuration leaves: all but the owner's dependencies
-abbrev kept : ℕ → Declaration → Bool
-kept id d = not (isDependencyOf id d)
-
-kept-dependency : (id : ℕ) (d : Declaration) → (ownerIn d ≡ id → ⊥) → kept id d ≡ true
+-- another owner's declaration remains, and every provision
+pub other-remains : (id : ℕ) (d : Declaration) → (ownerIn d ≡ id → ⊥) → remains id d ≡ true
 unfolding isDependencyOf
-kept-dependency id d f = rw (ne-eqb (ownerIn d) id f, and-false (not (d .provides)))
+other-remains id d f = rw (ne-eqb (ownerIn d) id f, and-false (not (d .provides)))
 
-kept-provision : (id : ℕ) (d : Declaration) → d .provides ≡ true → kept id d ≡ true
+provision-remains : (id : ℕ) (d : Declaration) → d .provides ≡ true → remains id d ≡ true
 unfolding isDependencyOf
-kept-provision id d a = rw a
+provision-remains id d a = rw a
+
+-- what configure's sum counts is the table that it makes
+pub configured-count : (T : Tables) (id : ℕ) (l : PortList) → length ((dependenciesConfigured T id l) .declarations) ≡ length (remaining T id) + length (listed l)
+configured-count T id l = length-append (remaining T id) (map (dependency id) (listed l)) ∙ ap (λ (n : ℕ). length (remaining T id) + n) (length-map (listed l) (dependency id))
 
 module _ (S : Sizes) (T : Tables) where
   -- one more provision
@@ -78,53 +79,49 @@ module _ (S : Sizes) (T : Tables) where
       free : (l : Link) → List·Memᴰ l (T .links) → l .live ≡ true → eqb (providerIn l) id && samePort (portIn l) p ≡ false
       free l m v = rw v at (none-in (reliesOn id p) m (q .1 .0))
 
-  reconfigured :
-      (id : ℕ) (ps : List Port)
-      → Sound S T
-      → present (T .nodes) id ≡ true
-      → isInactive ((nodeAt (T .nodes) id) .phase) ≡ true
-      → length ps + length (T .declarations) ≤ S .declarations
-      → Sound S (withDeclarations T (keep (kept id) (T .declarations) ++ map (dependency id) ps))
-  reconfigured id ps k t q f = record {
-    sizes = record {
-      nodes = k .sizes .nodes;
-      declarations = rw (length-append others (map (dependency id) ps), length-map ps (dependency id)) (omega (arith, length-keep (kept id) (T .declarations)));
-      links = k .sizes .links;
-    };
+  pub dependenciesConfigured-sound : (id : ℕ) (l : PortList) → Sound S T → Passed (configureTests S T id l) → Sound S (dependenciesConfigured T id l)
+  dependenciesConfigured-sound id l k (_, (absent, (_, (running, (full, _))))) = record {
+    sizes = record { nodes = k .sizes .nodes; declarations = rw (configured-count T id l) (ltb-false _ _ full); links = k .sizes .links };
     safe = safe-declarations T _ (k .safe)
-        (λ d m. owned d (List·Memᴰ·append-cases (keep (kept id) (T .declarations)) m))
-        (λ d e m n a b x y r. k .safe .unique d e (prov d a (List·Memᴰ·append-cases (keep (kept id) (T .declarations)) m)) (prov e b (List·Memᴰ·append-cases (keep (kept id) (T .declarations)) n)) a b x y r)
+        (λ d m. owned d (which m))
+        (λ d e m n a b x y r. k .safe .unique d e (prov d a (which m)) (prov e b (which n)) a b x y r)
         linked;
-    covered = λ d m n a b. cov d (List·Memᴰ·append-cases (keep (kept id) (T .declarations)) m) n a b;
+    covered = λ d m n a b. cov d (which m) n a b;
   }
     where
+      ds : List Declaration
+      ds = map (dependency id) (listed l)
+
+      here : present (T .nodes) id ≡ true
+      here = not-f _ absent
+
       idle : notInactive (T .nodes) id ≡ false
-      idle = rw q
+      idle = rw (and-l (isInactive ((nodeAt (T .nodes) id) .phase)) _ (not-f _ running))
 
-      others : List Declaration
-      others = keep (kept id) (T .declarations)
+      which : {d : Declaration} → List·Memᴰ d (remaining T id ++ ds) → List·Memᴰ d (remaining T id) ⊎ List·Memᴰ d ds
+      which m = List·Memᴰ·append-cases (remaining T id) m
 
-      linked : LiveLinks T (λ d. List·Memᴰ d (others ++ map (dependency id) ps))
+      before : {d : Declaration} → List·Memᴰ d (remaining T id) → List·Memᴰ d (T .declarations)
+      before m = (in-keep (remains id) (T .declarations) m) .0
+
+      linked : LiveLinks T (λ d. List·Memᴰ d (remaining T id ++ ds))
       linked l m v =
           let o = k .safe .live l m v in
-          let mine = kept-dependency id (dependency (consumerIn l) (portIn l)) (λ e. clash {A = ⊥} _ (rw e at (o .consumer-installed)) idle) in
-          let its = kept-provision id (provision (providerIn l) (portIn l)) refl in
-          (Memᴰ·append-left _ (keep-in (kept id) (o .needed) mine), Memᴰ·append-left _ (keep-in (kept id) (o .offered) its))
+          let mine = other-remains id (dependency (consumerIn l) (portIn l)) (λ e. clash {A = ⊥} _ (rw e at (o .consumer-installed)) idle) in
+          let its = provision-remains id (provision (providerIn l) (portIn l)) refl in
+          (Memᴰ·append-left _ (keep-in (remains id) (o .needed) mine), Memᴰ·append-left _ (keep-in (remains id) (o .offered) its))
 
-      owned : (d : Declaration) → List·Memᴰ d (keep (kept id) (T .declarations)) ⊎ List·Memᴰ d (map (dependency id) ps) → ownerIn d < length (T .nodes)
-      owned d (inl m) = k .safe .owners d ((in-keep (kept id) (T .declarations) m) .0)
-      owned d (inr m) = let (p, n, e) = in-map (dependency id) ps m in rw e (present-lt _ _ t)
+      owned : (d : Declaration) → List·Memᴰ d (remaining T id) ⊎ List·Memᴰ d ds → ownerIn d < length (T .nodes)
+      owned d (inl m) = k .safe .owners d (before m)
+      owned d (inr m) = let (p, n, e) = in-map (dependency id) (listed l) m in rw e (present-lt _ _ here)
 
-      prov : (d : Declaration) → d .provides ≡ true → List·Memᴰ d (keep (kept id) (T .declarations)) ⊎ List·Memᴰ d (map (dependency id) ps) → List·Memᴰ d (T .declarations)
-      prov d a (inl m) = (in-keep (kept id) (T .declarations) m) .0
-      prov d a (inr m) = let (p, n, e) = in-map (dependency id) ps m in clash false (sym (ap (λ (z : Declaration). z .provides) e) ∙ a) refl
+      prov : (d : Declaration) → d .provides ≡ true → List·Memᴰ d (remaining T id) ⊎ List·Memᴰ d ds → List·Memᴰ d (T .declarations)
+      prov d a (inl m) = before m
+      prov d a (inr m) = let (p, n, e) = in-map (dependency id) (listed l) m in clash false (sym (ap (λ (z : Declaration). z .provides) e) ∙ a) refl
 
       cov :
-          (d : Declaration) → List·Memᴰ d others ⊎ List·Memᴰ d (map (dependency id) ps)
+          (d : Declaration) → List·Memᴰ d (remaining T id) ⊎ List·Memᴰ d ds
           → d .provides ≡ false → present (T .nodes) (ownerIn d) ≡ true → notInactive (T .nodes) (ownerIn d) ≡ true
           → Linked (T .links) (ownerIn d) (declaredPort d)
-      cov d (inl m) n a b = k .covered d ((in-keep (kept id) (T .declarations) m) .0) n a b
-      cov d (inr m) n a b = let (p, x, e) = in-map (dependency id) ps m in clash _ (rw e at b) idle
-
-  pub dependenciesConfigured-sound : (id : ℕ) (l : PortList) → Sound S T → Passed (configureTests S T id l) → Sound S (dependenciesConfigured T id l)
-  dependenciesConfigured-sound id l k p = reconfigured id (listed l) k (not-f _ (p .1 .0)) (and-l (isInactive ((nodeAt (T .nodes) id) .phase)) _ (not-f _ (p .1 .1 .1 .0))) (ltb-false _ _ (p .1 .1 .1 .1 .0))
+      cov d (inl m) n a b = k .covered d (before m) n a b
+      cov d (inr m) n a b = let (p, x, e) = in-map (dependency id) (listed l) m in clash _ (rw e at b) idle

@@ -1,7 +1,7 @@
 -- What demand 3 adds to soundness, and that every command keeps it.
 use Rattle.model.proofs.Logic.{Bool, List, List·Memᴰ·eq-of-singleton, Option, [], _&&_, _++_, _<_, _∙_, _∷_, _≡_, _⊎_, and-false, ap, append-nil, arith, cond, eq-eqb, eqb, false, inl, inr, length, map, ne-eqb, none, not, refl, some, subst, sym, true, ℕ, ℕ-discrete}
-use Rattle.model.specs.{Commands.Command, Commands.report, Commands.result, Commands.step, Commands.tests, Compaction.declarationsCompacted, Insertion.inserted, Interface.dependenciesConfigured, Interface.listed, Interface.own, Interface.provisionDeclared, Interface.provisionReleased, Iteration.begins, Lifecycle.beginTests, Lifecycle.begun, Lifecycle.begunNode, Lifecycle.begunWith, Lifecycle.cleanupFinished, Lifecycle.phaseAt, Records.declaredPort, Records.dependency, Records.isInactive, Records.isRunning, Records.liveLink, Records.newNode, Records.ownerIn, Records.portOf, Records.provision, Records.restoredNode, Records.samePort, Refusals.accepted, Resolution.committed, Resolution.dependencyPorts, Resolution.isDependencyOf, Resolution.target, Sizes.Sizes, Soundness.isDeclaration, Soundness.sound, Tables.Tables, Tables.empty, Tables.nodeAt, Tables.notInactive, Tables.present, Tables.withDeclarations, Tables.withNode, declared.Binding.Binding, declared.Parent.Parent, declared.Port.Port, declared.PortList.PortList, declared.records.Declaration.Declaration, declared.records.Node.Node}
-use Rattle.model.proofs.{Laws.Booleans.and-l, Laws.Booleans.cases, Laws.Booleans.clash, Laws.Booleans.not-f, Laws.Booleans.not-t, Laws.Committed.committed-append, Laws.Committed.committed-compact, Laws.Committed.committed-dead, Laws.Committed.committed-idle, Laws.Committed.dependencyPorts-keep, Laws.Committed.dependencyPorts-more, Laws.Committed.fresh-mine, Laws.Committed.fresh-other, Laws.Committed.new-owner, Laws.Facts.Safe, Laws.Facts.Sound, Laws.Facts.facts, Laws.Lists.in-map, Laws.Lists.is-some, Laws.Nodes.at-set, Laws.Nodes.at-set-other, Laws.Nodes.at-snoc, Laws.Nodes.present-lt, Laws.Phases.loading-running, Laws.Phases.running-installed, Laws.Refusals.Passed, Laws.Refusals.step-cases, Laws.Resolution.Targeted, Laws.Resolution.bound-ports, Laws.Resolution.targeted, Theorems.Commands.runFrom, Theorems.Commands.step-sound}
+use Rattle.model.specs.{Commands.Command, Commands.report, Commands.result, Commands.step, Commands.tests, Compaction.declarationsCompacted, Insertion.inserted, Interface.dependenciesConfigured, Interface.listed, Interface.own, Interface.provisionDeclared, Interface.provisionReleased, Iteration.begins, Lifecycle.beginTests, Lifecycle.begun, Lifecycle.begunNode, Lifecycle.begunWith, Lifecycle.cleanupFinished, Lifecycle.phaseAt, Records.declaredPort, Records.dependency, Records.isInactive, Records.isRunning, Records.liveLink, Records.newNode, Records.ownerIn, Records.portOf, Records.provision, Records.restoredNode, Records.samePort, Refusals.accepted, Resolution.committed, Resolution.dependencyPorts, Resolution.target, Sizes.Sizes, Soundness.isDeclaration, Soundness.sound, Tables.Tables, Tables.empty, Tables.nodeAt, Tables.notInactive, Tables.present, Tables.withDeclarations, Tables.withNode, declared.Binding.Binding, declared.Parent.Parent, declared.Port.Port, declared.PortList.PortList, declared.records.Declaration.Declaration, declared.records.Node.Node}
+use Rattle.model.proofs.{Laws.Booleans.and-l, Laws.Booleans.cases, Laws.Booleans.clash, Laws.Booleans.not-f, Laws.Booleans.not-t, Laws.Committed.committed-append, Laws.Committed.committed-compact, Laws.Committed.committed-dead, Laws.Committed.committed-idle, Laws.Committed.dependencyPorts-keep, Laws.Committed.dependencyPorts-more, Laws.Committed.fresh-mine, Laws.Committed.fresh-other, Laws.Committed.new-owner, Laws.Facts.Safe, Laws.Facts.Sound, Laws.Facts.facts, Laws.Lists.in-map, Laws.Lists.is-some, Laws.Nodes.at-set, Laws.Nodes.at-set-other, Laws.Nodes.at-snoc, Laws.Nodes.present-lt, Laws.Phases.loading-running, Laws.Phases.running-installed, Laws.Refusals.Passed, Laws.Refusals.step-cases, Laws.Resolution.Targeted, Laws.Resolution.bound-ports, Laws.Resolution.targeted, Theorems.Commands.runFrom, Theorems.Commands.step-sound, Theorems.Interface.other-remains}
 
 -- of a running component, what was noted at its last accepted begin is its committed; of an installed one, the ports of its live links are its dependency ports, both in order
 pub record IterationInvariant (T : Tables) (id : ℕ) (a : Option (List Binding)) : Type 0 where
@@ -72,14 +72,10 @@ module _ (S : Sizes) (T : Tables) (k : Sound S T) (id : ℕ) (a : Option (List B
 
   -- an Inactive component's dependencies are another's
   dependenciesConfigured-kept : (j : ℕ) (l : PortList) → isInactive (phaseAt T j) ≡ true → IterationInvariant (dependenciesConfigured T j l) id a
-  unfolding isDependencyOf
   dependenciesConfigured-kept j l i = kept-by T _ id a q (λ r.
       let d : id ≡ j → ⊥ = λ e. clash {A = ⊥} (isInactive (phaseAt T j)) i (not-t _ (subst (λ (x : ℕ). notInactive (T .nodes) x ≡ true) e r)) in
       let added = dependencyPorts-more _ (map (dependency j) (listed l)) id (λ z m x y. let (b, n, e) = in-map (dependency j) (listed l) m in d (sym y ∙ ap ownerIn e)) in
-      (r, λ x. x, refl, added ∙ dependencyPorts-keep _ (T .declarations) id (λ z x y. other z (λ e. d (sym y ∙ e)))))
-    where
-      other : (z : Declaration) → (ownerIn z ≡ j → ⊥) → not (isDependencyOf j z) ≡ true
-      other z f = rw (ne-eqb (ownerIn z) j f, and-false (not (z .provides)))
+      (r, λ x. x, refl, added ∙ dependencyPorts-keep _ (T .declarations) id (λ z x y. other-remains j z (λ e. d (sym y ∙ e)))))
 
   inserted-kept : (o : Parent) (ds ps : PortList) → IterationInvariant (inserted T o ds ps) id a
   inserted-kept o ds ps = kept-by T _ id a q (λ r.

@@ -1,6 +1,6 @@
 -- Declarations and links after a command: what an interface command adds and drops, what finish_cleanup and the compactions leave.
-use Rattle.model.proofs.Logic.{Bool, List, List·Memᴰ, List·Memᴰ·append-cases, List·Memᴰ·eq-of-singleton, List·Memᴰ·head, Memᴰ·append-left, Memᴰ·append-right, Memᴰ·cast, [], _&&_, _++_, _+_, _<_, _||_, _↔_, _∙_, _∷_, _≡_, _⊎_, ap, arith, cond, eq-eqb, eqb, false, inl, inr, length, map, not, refl, sym, true, ℕ}
-use Rattle.model.specs.{Commands.Command, Commands.step, Commands.tests, Compaction.bindingsCompacted, Compaction.bindingsRemoved, Compaction.declarationsCompacted, Compaction.declarationsRemoved, Insertion.newDeclarations, Interface.listed, Interface.own, Interface.reliesOn, Lifecycle.phaseAt, Lists.keep, Observers.bindingRecords, Observers.declarationRecords, Observers.provisionReserved, Records.consumerIn, Records.deadFor, Records.declarationOf, Records.declaredPort, Records.dependency, Records.isInactive, Records.isLive, Records.isRunning, Records.isUnloading, Records.ownerIn, Records.portIn, Records.providerIn, Records.provision, Refusals.Reply, Refusals.accepted, Resolution.committed, Resolution.isDependencyOf, Sizes.Sizes, Soundness.declares, Soundness.isDeclaration, Soundness.sound, Tables.Tables, Tables.nodeAt, Tables.present, declared.Parent.Parent, declared.Phase.Phase, declared.Port.Port, declared.PortList.PortList, declared.records.Declaration.Declaration, declared.records.Link.Link}
+use Rattle.model.proofs.Logic.{Bool, List, List·Memᴰ, List·Memᴰ·append-cases, List·Memᴰ·eq-of-singleton, List·Memᴰ·head, Memᴰ·append-left, Memᴰ·append-right, Memᴰ·cast, [], _&&_, _++_, _+_, _<_, _||_, _↔_, _∙_, _∷_, _≡_, _⊎_, ap, arith, cond, eq-eqb, eqb, false, inl, inr, length, map, refl, sym, true, ℕ}
+use Rattle.model.specs.{Commands.Command, Commands.step, Commands.tests, Compaction.bindingsCompacted, Compaction.bindingsRemoved, Compaction.declarationsCompacted, Compaction.declarationsRemoved, Insertion.newDeclarations, Interface.listed, Interface.own, Interface.reliesOn, Interface.remaining, Interface.remains, Lifecycle.phaseAt, Observers.bindingRecords, Observers.declarationRecords, Observers.provisionReserved, Records.consumerIn, Records.deadFor, Records.declarationOf, Records.declaredPort, Records.dependency, Records.isInactive, Records.isLive, Records.isRunning, Records.isUnloading, Records.ownerIn, Records.portIn, Records.providerIn, Records.provision, Refusals.Reply, Refusals.accepted, Resolution.committed, Resolution.isDependencyOf, Sizes.Sizes, Soundness.declares, Soundness.isDeclaration, Soundness.sound, Tables.Tables, Tables.nodeAt, Tables.present, declared.Parent.Parent, declared.Phase.Phase, declared.Port.Port, declared.PortList.PortList, declared.records.Declaration.Declaration, declared.records.Link.Link}
 use Rattle.model.proofs.{Laws.Booleans.and-i, Laws.Booleans.and-l, Laws.Booleans.clash, Laws.Booleans.f-not, Laws.Booleans.not-f, Laws.Booleans.not-t, Laws.Committed.committed-compact, Laws.Committed.committed-dead, Laws.Pieces.refuted, Laws.Facts.declaration-passes, Laws.Facts.declares-in, Laws.Facts.facts, Laws.Facts.in-declares, Laws.Facts.is-declaration, Laws.Facts.port-same, Laws.Lists.in-keep, Laws.Lists.in-map, Laws.Lists.keep-in, Laws.Lists.length-keep, Laws.Lists.map-in, Laws.Lists.none-in, Laws.Live.any-kept, Laws.Refusals.Passed, Laws.Refusals.step-keeps, Theorems.FinishCleanup.dead-live, Theorems.Upstream.Replies.accepted-step, Theorems.Upstream.Replies.accepts}
 
 -- ---- declare_provision
@@ -75,9 +75,6 @@ module _ (S : Sizes) (T : Tables) (id : ℕ) (l : PortList) where
   abbrev configuring : Command
   configuring = Command.configurePendingDependencies id l
 
-  abbrev others : List Declaration
-  others = keep (λ d. not (isDependencyOf id d)) (T .declarations)
-
   pub configure-accepted : accepted ((step S T configuring) .reply) ≡ true → (present (T .nodes) id ≡ true) × ((nodeAt (T .nodes) id) .retired ≡ false) × (isInactive (phaseAt T id) ≡ true)
   configure-accepted h =
       let q : Passed (tests S T configuring) = accepts S T configuring .0 h in
@@ -85,20 +82,20 @@ module _ (S : Sizes) (T : Tables) (id : ℕ) (l : PortList) where
 
   -- the dependencies are those of the list
   pub configured-dependencies : accepted ((step S T configuring) .reply) ≡ true → (p : Port) → List·Memᴰ (dependency id p) ((step S T configuring) .tables .declarations) ↔ List·Memᴰ p (listed l)
-  configured-dependencies h p = rw (accepted-step S T configuring (accepts S T configuring .0 h)) (λ m. go (List·Memᴰ·append-cases others m), λ m. Memᴰ·append-right others (map-in (dependency id) m))
+  configured-dependencies h p = rw (accepted-step S T configuring (accepts S T configuring .0 h)) (λ m. go (List·Memᴰ·append-cases (remaining T id) m), λ m. Memᴰ·append-right (remaining T id) (map-in (dependency id) m))
     where
-      go : List·Memᴰ (dependency id p) others ⊎ List·Memᴰ (dependency id p) (map (dependency id) (listed l)) → List·Memᴰ p (listed l)
-      go (inl m) = clash _ (own-dependency id p) (not-t _ ((in-keep (λ d. not (isDependencyOf id d)) (T .declarations) m) .1))
+      go : List·Memᴰ (dependency id p) (remaining T id) ⊎ List·Memᴰ (dependency id p) (map (dependency id) (listed l)) → List·Memᴰ p (listed l)
+      go (inl m) = clash _ (own-dependency id p) (not-t _ ((in-keep (remains id) (T .declarations) m) .1))
       go (inr m) = let (x, n, e) = in-map (dependency id) (listed l) m in Memᴰ·cast (ap declaredPort e) n
 
   -- every other declaration is as before
   pub configured-others : (d : Declaration) → isDependencyOf id d ≡ false → SameIn d T ((step S T configuring) .tables)
   configured-others d f = step-keeps (λ U. SameIn d T U) S T configuring
       (λ m. m, λ m. m)
-      (λ q. (λ m. go (List·Memᴰ·append-cases others m), λ m. Memᴰ·append-left _ (keep-in (λ d. not (isDependencyOf id d)) m (f-not _ f))))
+      (λ q. (λ m. go (List·Memᴰ·append-cases (remaining T id) m), λ m. Memᴰ·append-left _ (keep-in (remains id) m (f-not _ f))))
     where
-      go : List·Memᴰ d others ⊎ List·Memᴰ d (map (dependency id) (listed l)) → List·Memᴰ d (T .declarations)
-      go (inl m) = (in-keep (λ d. not (isDependencyOf id d)) (T .declarations) m) .0
+      go : List·Memᴰ d (remaining T id) ⊎ List·Memᴰ d (map (dependency id) (listed l)) → List·Memᴰ d (T .declarations)
+      go (inl m) = (in-keep (remains id) (T .declarations) m) .0
       go (inr m) = let (x, n, e) = in-map (dependency id) (listed l) m in clash _ (own-dependency id x) (rw e at f)
 
 -- ---- insert
