@@ -1,4 +1,4 @@
-//! The kernels that the lists set up. All components are Active at the end, one of them retired.
+//! The kernels that the lists set up. All components are Active at the end, one of them retired; of two the last never began.
 use crate::log::{self, Port};
 use crate::script::Script;
 
@@ -45,9 +45,25 @@ pub fn typical() -> Controller {
 /// n components (8, 16, 32 or 64), n provisions and 3n dependencies: 4n declarations, 3n live links and 4n dead ones.
 /// Identity 0 provides half the ports. The last component has two dependencies, the one before it n/2.
 pub fn scaled(n: usize) -> Controller {
+    let name = if n == 64 { "full".into() } else { format!("{n} components") };
+    let (setup, roles) = layered(n, 0);
+    finish(name, setup, n, roles)
+}
+
+/// The full one with its last component not begun, and so many declarations fewer.
+pub fn pending(free: usize) -> Controller {
+    let (setup, roles) = layered(64, free);
+    finish(format!("full less {free}, the last not begun"), setup, 63, roles)
+}
+
+/// Two ports that nobody declares.
+pub const NEW: [Port; 2] = [Port { key: 1000, realm: 0 }, Port { key: 1001, realm: 0 }];
+
+/// The components of a scaled controller, inserted; `free` dependencies of those that share the rest left out.
+fn layered(n: usize, free: usize) -> (Script, Roles) {
     let (filler, cycled) = (n - 2, n - 1);
     // the other components share the rest of the dependencies
-    let (shared, sharers) = (3 * n - n / 2 - 2, n - 3);
+    let (shared, sharers) = (3 * n - n / 2 - 2 - free, n - 3);
     let mut setup = Script::default();
     setup.insert(&[], &ports(0..n / 2));
     for id in 1..n {
@@ -61,9 +77,8 @@ pub fn scaled(n: usize) -> Controller {
         let dependencies: Vec<Port> = (0..wanted).map(|k| port((5 * id + k) % below)).collect();
         setup.insert(&dependencies, &offered);
     }
-    let name = if n == 64 { "full".into() } else { format!("{n} components") };
     let roles = Roles { retired: (n - 3) as u8, cycled: cycled as u8, cycles: n / 2 - 2, refill: (filler as u8, 8) };
-    finish(name, setup, n, roles)
+    (setup, roles)
 }
 
 /// Commands do not reach two owners with 128 declarations each and 512 live links: a component has at most 32 dependencies,

@@ -20,7 +20,7 @@ impl List {
 
     /// How many commands are measured in so many repeats.
     pub fn measured(&self, repeats: usize) -> usize {
-        repeats * self.measured.len()
+        repeats * self.measured.calls()
     }
 
     /// The whole list, and the same without the measured commands: the difference of their times is theirs.
@@ -36,7 +36,13 @@ impl List {
 }
 
 pub fn all() -> Vec<List> {
-    controllers().iter().flat_map(lists_of).collect()
+    let configured = [0, 2].map(|free| configured(&controllers::pending(free)));
+    controllers().iter().flat_map(lists_of).chain(configured).collect()
+}
+
+/// The last component, which never began, gets its two dependencies anew.
+fn configured(c: &Controller) -> List {
+    list(c, "configure", |s| s.configure(c.cycled, &controllers::NEW, 0), false)
 }
 
 fn controllers() -> Vec<Controller> {

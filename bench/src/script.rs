@@ -7,6 +7,8 @@ pub struct Script {
     pub answers: Vec<u8>,
     /// How many components are inserted.
     inserted: u8,
+    /// How many of the commands are ports for a pending list, which no kernel sees.
+    ports: usize,
 }
 
 impl Script {
@@ -15,9 +17,15 @@ impl Script {
         self.answers.len()
     }
 
+    /// How many of them a kernel answers.
+    pub fn calls(&self) -> usize {
+        self.len() - self.ports
+    }
+
     pub fn append(&mut self, other: &Script) {
         self.log.extend(&other.log);
         self.answers.extend(&other.answers);
+        self.ports += other.ports;
     }
 
     /// A command without operands.
@@ -43,14 +51,25 @@ impl Script {
         self.log.extend(port.realm.to_le_bytes());
     }
 
+    /// Ports for a pending list.
+    fn pend(&mut self, byte: u8, ports: &[Port]) {
+        for &p in ports {
+            self.bare(byte, 0);
+            self.port(p);
+        }
+        self.ports += ports.len();
+    }
+
+    /// A configuration with these dependencies.
+    pub fn configure(&mut self, id: u8, dependencies: &[Port], answer: u8) {
+        self.pend(log::DEPENDENCY, dependencies);
+        self.of(log::CONFIGURE, id, answer);
+    }
+
     /// An insert without a parent, with both lists; the identity that it must issue.
     pub fn insert(&mut self, dependencies: &[Port], provisions: &[Port]) -> u8 {
-        for (byte, ports) in [(log::DEPENDENCY, dependencies), (log::PROVISION, provisions)] {
-            for &p in ports {
-                self.bare(byte, 0);
-                self.port(p);
-            }
-        }
+        self.pend(log::DEPENDENCY, dependencies);
+        self.pend(log::PROVISION, provisions);
         self.of(log::INSERT, log::NO_PARENT, 0);
         self.inserted += 1;
         self.inserted - 1

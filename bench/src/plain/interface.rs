@@ -53,13 +53,14 @@ impl Kernel {
             if node.phase != Phase::Inactive || node.generation != 0 {
                 return Err(Error::InvalidState);
             }
-            if DECLARATIONS < k.declaration_count + dependencies.count {
+            let remains = |d: &Declaration| d.provides || d.owner != id;
+            if DECLARATIONS < k.declarations().iter().filter(|d| remains(d)).count() + dependencies.count {
                 return Err(Error::Capacity);
             }
             if repeats(dependencies.listed()) {
                 return Err(Error::Conflict);
             }
-            k.keep_declarations(|d| d.provides || d.owner != id);
+            k.keep_declarations(remains);
             for &port in dependencies.listed() {
                 k.append(Declaration { owner: id, port, provides: false });
             }

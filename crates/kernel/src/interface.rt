@@ -82,7 +82,8 @@ impl Kernel {
         Answer::Done
     }
 
-    // configure_pending_dependencies: replaces the dependencies of a component that has never begun.
+    // configure_pending_dependencies: replaces the dependencies of a component that has never begun. The table is made before its
+    // tests: made behind them, the compiler copies it once more.
     pub fn configure_pending_dependencies(mut self, id: usize, list: PortList) -> Outcome
         ensures { λ r. ⌜ Returns self (Command.configurePendingDependencies id list) r ⌝ }
     {
@@ -95,13 +96,13 @@ impl Kernel {
             let kept = edits::kept_declarations(declarations, count, unread, rule);
             let rest = kept.declarations;
             let n = kept.count;
+            let all = append_ports(rest, n, id, list, false);
             let sum = n + list.count;
             if DECLARATIONS < sum {
                 answer = Answer::Refused(Error::Capacity);
             } else if !loops::distinct_ports(list) {
                 answer = Answer::Refused(Error::Conflict);
             } else {
-                let all = append_ports(rest, n, id, list, false);
                 self.declarations = all;
                 self.declaration_count = sum;
             }

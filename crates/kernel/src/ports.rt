@@ -11,7 +11,7 @@ use model::Declaration;
 use model::PortList;
 use sizes::DECLARATIONS;
 
-// The declarations with those of an owner for a list of ports behind them.
+// The declarations with those of an owner for a list of ports behind them, as many as there is room for.
 pub(crate) fn append_ports(
     mut declarations: [Declaration; DECLARATIONS],
     count: usize,
@@ -19,13 +19,13 @@ pub(crate) fn append_ports(
     list: PortList,
     provides: bool,
 ) -> [Declaration; DECLARATIONS]
-    requires { ⌜ (list .count ≤ 32) × (count + list .count ≤ DECLARATIONS) × (declarations ≡ padded DECLARATIONS blankDeclaration (take count declarations)) ⌝ }
-    ensures { λ r. ⌜ r ≡ padded DECLARATIONS blankDeclaration (take count declarations ++ map (declarationOf owner provides) (listed list)) ⌝ }
+    requires { ⌜ (list .count ≤ 32) × (count ≤ DECLARATIONS) × (declarations ≡ padded DECLARATIONS blankDeclaration (take count declarations)) ⌝ }
+    ensures { λ r. ⌜ (count + list .count ≤ DECLARATIONS → r ≡ padded DECLARATIONS blankDeclaration (take count declarations ++ map (declarationOf owner provides) (listed list))) ⌝ }
 {
-    let more = list.count;
+    let end = loops::at_most(list.count, DECLARATIONS - count);
     let ports = list.ports;
     let mut i = 0;
-    while i < more {
+    while i < end {
         let p = ports[i];
         declarations[count + i] = records::declaration_of(owner, provides, p);
         i += 1;

@@ -44,8 +44,11 @@ module _ (f : tie.After-kept-declarations) where
 
 -- the sum is within the size
 module _ (g : tie.After-distinct-ports) where
+  abbrev m : tie.After-append-ports
+  m = g .before .before .before
+
   abbrev k : tie.After-kept-declarations
-  k = g .before .before .before .before
+  k = m .before .before
 
   repeats : {b : Bool} → not (g .distinct-ports .result) ≡ b → not (distinct (listed (s (e k) .args .list))) ≡ b
   repeats h = ap not (sym (g .distinct-ports .ensures)) ∙ h
@@ -54,12 +57,12 @@ module _ (g : tie.After-distinct-ports) where
   fits = full k (le-ltb _ _ (g .before .if1 .left))
 
 append-ports-requires : tie.Need-append-ports-requires
-append-ports-requires c κs = let g = c .before in (C (e (k g)) .short .within, g .before .if1 .left, holds-padded (rest (k g)))
+append-ports-requires c κs = let f = c .before in (C (e f) .short .within, remaining-within (C (e f)) (rest f), holds-padded (rest f))
 
 -- over it
 returns : tie.Need-returns
 returns c =
-    let f = c .before .before .before in
+    let f = c .before .before .before .before in
     let d = e f in
     hands-refused (C d .kernel) (command (s d)) (left d _ ∙ stop _ _ _ (full f (lt-ltb _ _ (c .if1 .taken))))
 
@@ -72,10 +75,10 @@ returns-2 c =
 
 returns-3 : tie.Need-returns-3
 returns-3 c =
-    let g = c .before .before in
+    let g = c .before in
     let d = e (k g) in
-    let row = left d _ ∙ skip _ _ _ (fits g) ∙ skip _ _ _ (repeats g (c .before .if2 .left)) ∙ of-passed [] tt in
-    let done = hands-accepted (C d .kernel) (command (s d)) row _ (configured-laid (C d) (rest (k g)) (c .append-ports .ensures)) in
+    let row = left d _ ∙ skip _ _ _ (fits g) ∙ skip _ _ _ (repeats g (c .if2 .left)) ∙ of-passed [] tt in
+    let done = hands-accepted (C d .kernel) (command (s d)) row _ (configured-laid (C d) (rest (k g)) (m g .append-ports .ensures (g .before .if1 .left))) in
     answer-is (s d .args .self) (command (s d)) (d .enum-told .given .1) done
 
 -- the list or the node refused
@@ -89,9 +92,9 @@ returns-4 c =
 pub configure-pending-dependencies-spec : {M : Type 1} → statement M
 configure-pending-dependencies-spec = tie.close (tie.spec
     (λ c κs. search needs) (λ c. search needs) (λ c κs. search needs)  -- check-configurable-requires, enum-told, kept-declarations-requires
-    (λ c. let f = c .before .before in omega (arith, remaining-within (C (e f)) (rest f), C (e f) .short .within))  -- add-sum
-    (λ c κs. search needs)  -- distinct-ports-requires
     append-ports-requires
+    (λ c. let f = c .before .before .before in omega (arith, remaining-within (C (e f)) (rest f), C (e f) .short .within))  -- add-sum
+    (λ c κs. search needs)  -- distinct-ports-requires
     (λ c. search needs)  -- enum-told-2
     returns
     returns-2

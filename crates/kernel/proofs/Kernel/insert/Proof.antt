@@ -54,7 +54,7 @@ unfolding tablesOf
 append-ports-requires c κs = let i = I (c .before) in (i .short .0 .within, omega (arith, i .sum), sym (declarations-laid (i .kernel)))
 
 append-ports-requires-2 : tie.Need-append-ports-requires-2
-append-ports-requires-2 c κs = let i = I (e c) in (i .short .1 .within, i .sum, more-padded (i .kernel) (i .short) _ (c .append-ports .ensures))
+append-ports-requires-2 c κs = let i = I (e c) in (i .short .1 .within, omega (arith, i .sum), more-padded (i .kernel) (i .short) _ (c .append-ports .ensures (omega (arith, i .sum))))
 
 returns-2 : tie.Need-returns-2
 returns-2 c =
@@ -63,7 +63,7 @@ returns-2 c =
     let d = e f in
     let i = I d in
     let o = s (at d) .args in
-    let laid = inserted-laid (i .kernel) (i .short) _ (f .append-ports .ensures) (g .append-ports2 .ensures) refl (i .node) (o .parent) (c .new-node .ensures) in
+    let laid = inserted-laid (i .kernel) (i .short) _ (f .append-ports .ensures (omega (arith, i .sum))) (g .append-ports2 .ensures (i .sum)) refl (i .node) (o .parent) (c .new-node .ensures) in
     inserts (i .kernel) (o .parent) (o .dependencies) (o .provisions) (passed d) _ laid
 
 pub insert-spec : {M : Type 1} → statement M

@@ -1,7 +1,8 @@
 -- `kernel::ports::append_ports` meets its contract. The array holds the declarations below the count and those for the first i ports, then blanks.
-use Rattle.model.proofs.Logic.{Bool, List, _++_, _-_, _∙_, _≡_, _≤_, ap, append-nil, arith, length, length-map, length-take-le, map, needs, sym, take, ℕ}
+use Rattle.model.proofs.Logic.{Bool, List, _++_, _-_, _<_, _∙_, _≡_, _≤_, ap, append-nil, arith, decLt, length, length-map, length-take-le, map, needs, sym, take, ℕ}
 use Rattle.model.specs.{Lists.padded, Records.blankDeclaration, Records.blankPort, Records.declarationOf, declared.Port.Port, declared.records.Declaration.Declaration}
 use Rattle.loops.proofs.{Laws.Edit.appended-next}
+use Rattle.loops.specs.{Limits.AtMost}
 use Rattle.kernel.proofs.{ports.append_ports.Statement.statement}
 use Rattle.kernel.proofs.ports.append_ports.Tie as tie
 use Rattle.sizes.specs.{Sizes.DECLARATIONS}
@@ -10,19 +11,27 @@ use Rattle.sizes.specs.{Sizes.DECLARATIONS}
 abbrev appended : ℕ → ℕ → Bool → List Declaration → List Port → ℕ → List Declaration
 appended count owner provides declarations ports i = take count declarations ++ map (declarationOf owner provides) (take i ports)
 
+-- a count within the size is reached
+reached : {count size r : ℕ} → AtMost count size r → count ≤ size → r ≡ count
+reached {count} {size} {r} a h = go (decLt r count)
+  where
+    go : Dec (r < count) → r ≡ count
+    go (yes l) = let e = a .whole l in omega arith
+    go (no l) = omega arith
+
 abbrev Inv-loop : tie.InvT-loop
-Inv-loop count owner provides declarations₀ more ports i₀ declarations i = (i ≤ more) × (declarations ≡ padded DECLARATIONS blankDeclaration (appended count owner provides declarations₀ ports i))
+Inv-loop count owner provides declarations₀ end ports i₀ declarations i = (i ≤ end) × (declarations ≡ padded DECLARATIONS blankDeclaration (appended count owner provides declarations₀ ports i))
 
 abbrev μ-loop : tie.MeasureT-loop
-μ-loop count owner provides declarations₀ more ports i₀ declarations i = more - i
+μ-loop count owner provides declarations₀ end ports i₀ declarations i = end - i
 
 loop-holds : tie.Need-loop-holds Inv-loop μ-loop
-loop-holds c = (omega arith, c .before .pre .2 ∙ ap (padded DECLARATIONS blankDeclaration) (sym (append-nil (take (c .before .args .count) (c .before .args .t1)))))
+loop-holds c = let s = c .before .before in (omega arith, s .pre .2 ∙ ap (padded DECLARATIONS blankDeclaration) (sym (append-nil (take (s .args .count) (s .args .t1)))))
 
 loop-again : tie.Need-loop-again Inv-loop μ-loop
 loop-again c =
     let l = c .before .before .before in
-    let s = l .before .before in
+    let s = l .before .before .before in
     let j = l .loop in
     let a = s .args in
     let before = take (a .count) (a .t1) in
@@ -33,14 +42,15 @@ loop-again c =
     (omega arith, rw (c .declaration-of .ensures) next)
 
 returns : tie.Need-returns Inv-loop μ-loop
-returns c =
+returns c fits =
     let j = c .before .loop in
-    let a = c .before .before .before .args in
-    let e : j .i ≡ a .list .count = omega arith in
+    let a = c .before .before .before .before .args in
+    let e : j .i ≡ a .list .count = omega (arith, reached (c .before .before .before .at-most .ensures) (omega arith)) in
     rw (← e) (j .inv .1)
 
 pub append-ports-spec : {M : Type 1} → statement M
 append-ports-spec = tie.close (tie.spec Inv-loop μ-loop
+    (λ c. omega arith) (λ c κs. search needs)  -- sub-at-most, at-most-requires
     loop-holds
     (λ c. omega arith) (λ c. omega arith) (λ c κs. search needs) (λ c. omega arith)  -- mul-p, array-copy-out-p, declaration-of-requires, add-declarations
     (λ c. omega arith) (λ c. omega arith) (λ c. omega arith) (λ c. omega arith)  -- mul-declarations, array-set-from-declarations, add-i, loop-less
