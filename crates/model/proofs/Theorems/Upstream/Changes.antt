@@ -1,7 +1,7 @@
 -- Declarations and links after a command: what an interface command adds and drops, what finish_cleanup and the compactions leave.
-use Rattle.model.proofs.Logic.{Bool, List, List·Memᴰ, List·Memᴰ·append-cases, List·Memᴰ·eq-of-singleton, List·Memᴰ·head, Memᴰ·append-left, Memᴰ·append-right, Memᴰ·cast, [], _&&_, _++_, _+_, _<_, _||_, _↔_, _∙_, _∷_, _≡_, _⊎_, ap, arith, cond, eq-eqb, eqb, false, inl, inr, length, map, refl, sym, true, ℕ}
-use Rattle.model.specs.{Commands.Command, Commands.step, Commands.tests, Compaction.bindingsCompacted, Compaction.bindingsRemoved, Compaction.declarationsCompacted, Compaction.declarationsRemoved, Insertion.newDeclarations, Interface.listed, Interface.own, Interface.reliesOn, Interface.remaining, Interface.remains, Lifecycle.phaseAt, Observers.bindingRecords, Observers.declarationRecords, Observers.provisionReserved, Records.consumerIn, Records.deadFor, Records.declarationOf, Records.declaredPort, Records.dependency, Records.isInactive, Records.isLive, Records.isRunning, Records.isUnloading, Records.ownerIn, Records.portIn, Records.providerIn, Records.provision, Refusals.Reply, Refusals.accepted, Resolution.committed, Resolution.isDependencyOf, Sizes.Sizes, Soundness.declares, Soundness.isDeclaration, Soundness.sound, Tables.Tables, Tables.nodeAt, Tables.present, declared.Parent.Parent, declared.Phase.Phase, declared.Port.Port, declared.PortList.PortList, declared.records.Declaration.Declaration, declared.records.Link.Link}
-use Rattle.model.proofs.{Laws.Booleans.and-i, Laws.Booleans.and-l, Laws.Booleans.clash, Laws.Booleans.f-not, Laws.Booleans.not-f, Laws.Booleans.not-t, Laws.Committed.committed-compact, Laws.Committed.committed-dead, Laws.Pieces.refuted, Laws.Facts.declaration-passes, Laws.Facts.declares-in, Laws.Facts.facts, Laws.Facts.in-declares, Laws.Facts.is-declaration, Laws.Facts.port-same, Laws.Lists.in-keep, Laws.Lists.in-map, Laws.Lists.keep-in, Laws.Lists.length-keep, Laws.Lists.map-in, Laws.Lists.none-in, Laws.Live.any-kept, Laws.Refusals.Passed, Laws.Refusals.step-keeps, Theorems.FinishCleanup.dead-live, Theorems.Upstream.Replies.accepted-step, Theorems.Upstream.Replies.accepts}
+use Rattle.model.proofs.Logic.{Bool, List, List·Memᴰ, List·Memᴰ·append-cases, List·Memᴰ·eq-of-singleton, List·Memᴰ·head, Memᴰ·append-left, Memᴰ·append-right, Memᴰ·cast, [], _&&_, _++_, _+_, _<_, _||_, _↔_, _∙_, _∷_, _≡_, _⊎_, ap, arith, cond, eq-eqb, eqb, false, inl, inr, length, lt-ltb, ltb, ltb-true, map, not, refl, sym, true, ℕ, ⊎-elim}
+use Rattle.model.specs.{Commands.Command, Commands.step, Commands.tests, Compaction.bindingsCompacted, Compaction.bindingsRemoved, Compaction.declarationsCompacted, Compaction.declarationsRemoved, Insertion.newDeclarations, Interface.configureNodeTests, Interface.dependenciesConfigured, Interface.distinct, Interface.listed, Interface.own, Interface.reliesOn, Interface.remaining, Interface.remains, Interface.tooLong, Lifecycle.phaseAt, Lists.all, Observers.bindingRecords, Observers.declarationRecords, Observers.provisionReserved, Records.consumerIn, Records.deadFor, Records.declarationOf, Records.declaredPort, Records.dependency, Records.isInactive, Records.isLive, Records.isRunning, Records.isUnloading, Records.ownerIn, Records.portIn, Records.providerIn, Records.provision, Refusals.Reply, Refusals.accepted, Resolution.committed, Resolution.isDependencyOf, Sizes.Sizes, Soundness.declares, Soundness.isDeclaration, Soundness.sound, Tables.Tables, Tables.nodeAt, Tables.present, declared.Error.Error, declared.Parent.Parent, declared.Phase.Phase, declared.Port.Port, declared.PortList.PortList, declared.records.Declaration.Declaration, declared.records.Link.Link, declared.records.Node.Node}
+use Rattle.model.proofs.{Laws.Booleans.and-i, Laws.Booleans.and-l, Laws.Booleans.clash, Laws.Booleans.f-not, Laws.Booleans.not-f, Laws.Booleans.not-t, Laws.Committed.committed-compact, Laws.Committed.committed-dead, Laws.Pieces.refuted, Laws.Facts.declaration-passes, Laws.Facts.declares-in, Laws.Facts.facts, Laws.Facts.in-declares, Laws.Facts.is-declaration, Laws.Facts.port-same, Laws.Lists.in-keep, Laws.Lists.in-map, Laws.Lists.keep-in, Laws.Lists.length-keep, Laws.Lists.map-in, Laws.Lists.none-in, Laws.Live.any-kept, Laws.Refusals.Passed, Laws.Refusals.refused-ahead, Laws.Refusals.refused-at, Laws.Refusals.step-keeps, Theorems.FinishCleanup.dead-live, Theorems.Interface.configured-count, Theorems.Upstream.Replies.accepted-step, Theorems.Upstream.Replies.accepts, Theorems.Upstream.Replies.refuses}
 
 -- ---- declare_provision
 
@@ -79,6 +79,23 @@ module _ (S : Sizes) (T : Tables) (id : ℕ) (l : PortList) where
   configure-accepted h =
       let q : Passed (tests S T configuring) = accepts S T configuring .0 h in
       (not-f _ (q .1 .0), q .1 .1 .0, and-l (isInactive (phaseAt T id)) _ (not-f _ (q .1 .1 .1 .0)))
+
+  abbrev node : Node
+  node = nodeAt (T .nodes) id
+
+  -- 9 exactly if the list is over its limit, or the component may be configured and the table would be over its size
+  pub configure-capacity :
+      ((step S T configuring) .reply ≡ Reply.refused Error.Capacity)
+      ↔ ((tooLong l ≡ true) ⊎ (Passed (configureNodeTests node) × (S .declarations < length ((dependenciesConfigured T id l) .declarations))))
+  unfolding all
+  configure-capacity =
+      let r = refuses S T configuring Error.Capacity in
+      let long = refused-ahead (tooLong l) Error.Capacity _ in
+      let full = ltb (S .declarations) (length (remaining T id) + length (listed l)) in
+      let over = refused-at (configureNodeTests node) full Error.Capacity ((not (distinct (listed l)), Error.Conflict) ∷ []) refl refl in (
+        λ h. ⊎-elim (λ e. inl e) (λ g. let (p, f) = over .0 g in inr (p, rw (configured-count T id l) (ltb-true _ _ f))) (long .0 (r .0 h)),
+        λ h. r .1 (long .1 (⊎-elim (λ e. inl e) (λ (p, f). inr (over .1 (p, lt-ltb _ _ (rw (configured-count T id l) at f)))) h)),
+      )
 
   -- the dependencies are those of the list
   pub configured-dependencies : accepted ((step S T configuring) .reply) ≡ true → (p : Port) → List·Memᴰ (dependency id p) ((step S T configuring) .tables .declarations) ↔ List·Memᴰ p (listed l)

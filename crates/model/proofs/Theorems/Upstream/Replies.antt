@@ -1,6 +1,6 @@
 -- Accepted and refused: a command is accepted exactly if no test of its row applies, and a refused one changes nothing.
-use Rattle.model.proofs.Logic.{Bool, _↔_, _≡_, eq-eqb, eqb, false, not, refl, true}
-use Rattle.model.specs.{Commands.Command, Commands.report, Commands.result, Commands.settle, Commands.step, Commands.tests, Lists.all, Refusals.Reply, Refusals.accepted, Refusals.number, Sizes.Sizes, Tables.Tables, declared.Error.Error}
+use Rattle.model.proofs.Logic.{Bool, _∙_, _↔_, _≡_, ap, arith, eq-eqb, eqb, false, not, refl, some, true, ℕ}
+use Rattle.model.specs.{Commands.Command, Commands.report, Commands.result, Commands.settle, Commands.step, Commands.tests, Lists.all, Refusals.Reply, Refusals.accepted, Refusals.first, Refusals.number, Sizes.Sizes, Tables.Tables, declared.Error.Error}
 use Rattle.model.proofs.{Laws.Booleans.clash, Laws.Refusals.Passed, Laws.Refusals.first-among, Laws.Refusals.of-passed, Laws.Refusals.report-accepts, Laws.Refusals.step-cases}
 
 module _ (S : Sizes) (T : Tables) (c : Command) where
@@ -11,6 +11,17 @@ module _ (S : Sizes) (T : Tables) (c : Command) where
   -- accepted exactly if no test of the row applies
   pub accepts : (accepted ((step S T c) .reply) ≡ true) ↔ Passed (tests S T c)
   accepts = (step-cases (λ o. accepted (o .reply) ≡ true → Passed (tests S T c)) S T c (λ e h q. clash false q refl) (λ p q. p), λ p. rw (accepted-step p) (report-accepts T c))
+
+  -- refused exactly as the first test that applies says
+  pub refuses : (x : Error) → ((step S T c) .reply ≡ Reply.refused x) ↔ (first (tests S T c) ≡ some x)
+  refuses x = (
+    step-cases (λ o. o .reply ≡ Reply.refused x → first (tests S T c) ≡ some x) S T c
+        (λ e h q. let z : e ≡ x = cc in h ∙ ap some z)
+        (λ p q. clash (accepted (report T c)) (report-accepts T c) (rw q)),
+    λ h. step-cases (λ o. o .reply ≡ Reply.refused x) S T c
+        (λ e f. let z : e ≡ x = cc in ap Reply.refused z)
+        (λ p. let z : _≡_ {A = ℕ} 0 1 = cc (of-passed (tests S T c) p, h) in absurd (omega arith)),
+  )
 
   -- unchanged
   pub refused-unchanged : accepted ((step S T c) .reply) ≡ false → (step S T c) .tables ≡ T
