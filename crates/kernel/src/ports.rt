@@ -23,10 +23,9 @@ pub(crate) fn append_ports(
     ensures { λ r. ⌜ (count + list .count ≤ DECLARATIONS → r ≡ padded DECLARATIONS blankDeclaration (take count declarations ++ map (declarationOf owner provides) (listed list))) ⌝ }
 {
     let end = loops::at_most(list.count, DECLARATIONS - count);
-    let ports = list.ports;
     let mut i = 0;
     while i < end {
-        let p = ports[i];
+        let p = list.ports[i];
         declarations[count + i] = records::declaration_of(owner, provides, p);
         i += 1;
     }
