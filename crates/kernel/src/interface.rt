@@ -83,7 +83,7 @@ impl Kernel {
     }
 
     // configure_pending_dependencies: replaces the dependencies of a component that has never begun. The table is made before its
-    // tests: made behind them, the compiler copies it once more.
+    // tests; behind them it would be copied once more.
     pub fn configure_pending_dependencies(mut self, id: usize, list: PortList) -> Outcome
         ensures { λ r. ⌜ Returns self (Command.configurePendingDependencies id list) r ⌝ }
     {

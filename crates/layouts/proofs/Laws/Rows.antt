@@ -55,10 +55,6 @@ module _ {S : Sizes} {k : Layout} (K : SoundKernel S k) where
   pub row-passes : (f : Tables → Tests) → first (f (tablesOf k)) ≡ none → Answer.Done ≡ rowAnswer S k f
   row-passes f h = sym (ap (λ (o : Option Error). answer (orElse o Reply.done)) h) ∙ row-is f
 
-  -- a row that refused, at the start of another
-  pub refuses-first : (f : Tables → Tests) (us : Tests) {a : Answer} → a ≡ rowAnswer S k f → {x : Error} → a ≡ Answer.Refused x → first (f (tablesOf k) ++ us) ≡ some x
-  refuses-first f us {a} e {x} r = refused-among (f (tablesOf k)) us a x (e ∙ sym (row-is f)) r
-
   pub refused-by : (c : Command) {x : Error} → first (tests S (tablesOf k) c) ≡ some x → Refused S k c x
   refused-by c f = commanded-refused S k c _ (K .sound) f
 

@@ -80,7 +80,7 @@ module _ (S : Sizes) (T : Tables) where
       free l m v = rw v at (none-in (reliesOn id p) m (q .1 .0))
 
   pub dependenciesConfigured-sound : (id : ℕ) (l : PortList) → Sound S T → Passed (configureTests S T id l) → Sound S (dependenciesConfigured T id l)
-  dependenciesConfigured-sound id l k (_, (absent, (_, (running, (full, _))))) = record {
+  dependenciesConfigured-sound id l k (_, (absent, (_, (begun, (full, _))))) = record {
     sizes = record { nodes = k .sizes .nodes; declarations = rw (configured-count T id l) (ltb-false _ _ full); links = k .sizes .links };
     safe = safe-declarations T _ (k .safe)
         (λ d m. owned d (which m))
@@ -96,7 +96,7 @@ module _ (S : Sizes) (T : Tables) where
       here = not-f _ absent
 
       idle : notInactive (T .nodes) id ≡ false
-      idle = rw (and-l (isInactive ((nodeAt (T .nodes) id) .phase)) _ (not-f _ running))
+      idle = rw (and-l (isInactive ((nodeAt (T .nodes) id) .phase)) _ (not-f _ begun))
 
       which : {d : Declaration} → List·Memᴰ d (remaining T id ++ ds) → List·Memᴰ d (remaining T id) ⊎ List·Memᴰ d ds
       which m = List·Memᴰ·append-cases (remaining T id) m
