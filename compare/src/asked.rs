@@ -1,5 +1,6 @@
 //! What the observers are asked, as lines for the program `cases`, with lib.rs's answers.
 use crate::log::Port;
+use crate::record::{Lookup, Missing};
 use crate::reference::{self, Kernel};
 
 /// A line and its answer.
@@ -15,7 +16,7 @@ pub fn of_all(kernel: &Kernel) -> Vec<Asked> {
     ]
 }
 
-/// The observers that take an identity.
+/// The observers that take an identity, but target.
 pub fn of_identity(kernel: &Kernel, id: usize) -> Vec<Asked> {
     vec![
         (format!("contains {id}"), yes(kernel.contains(id))),
@@ -24,7 +25,6 @@ pub fn of_identity(kernel: &Kernel, id: usize) -> Vec<Asked> {
         (format!("cleanup_started {id}"), yes(kernel.cleanup_started(id))),
         (format!("episode_generation {id}"), kernel.episode_generation(id).map_or(none(), |n| n.to_string())),
         (format!("children {id}"), identities(kernel.children(id))),
-        (format!("target {id}"), kernel.target(id).map_or(none(), bindings)),
         (format!("committed {id}"), bindings(kernel.committed(id))),
     ]
 }
@@ -38,10 +38,29 @@ pub fn of_declaration(kernel: &Kernel, id: usize, Port { key, realm }: Port) -> 
     ]
 }
 
+/// target, with the dependency that is missing.
+pub fn target(kernel: &Kernel, id: usize, missing: Option<Missing>) -> Asked {
+    let answer = match (kernel.target(id), missing) {
+        (Some(target), _) => bindings(target),
+        (None, Some(m)) => format!("none, {}/{} {}", m.key, m.realm, found(m.found)),
+        (None, None) => none(),
+    };
+    (format!("target {id}"), answer)
+}
+
 /// resolve.
-pub fn of_port(kernel: &Kernel, Port { key, realm }: Port) -> Asked {
-    let provider = kernel.resolve(reference::Port { key, realm });
-    (format!("resolve {key} {realm}"), provider.map_or(none(), |id| id.to_string()))
+pub fn resolve(Port { key, realm }: Port, answer: Lookup) -> Asked {
+    (format!("resolve {key} {realm}"), found(answer))
+}
+
+fn found(answer: Lookup) -> String {
+    match answer {
+        Lookup::Provider(id) => id.to_string(),
+        Lookup::NotActive(id) => format!("not active {id}"),
+        Lookup::NoOwner => "no owner".to_string(),
+        // a text that the program never prints
+        Lookup::Disputed => "lib.rs's resolve is not its tables' Active owner".to_string(),
+    }
 }
 
 fn yes(answer: bool) -> String {

@@ -10,6 +10,7 @@ mod cases;
 mod directed;
 mod intended;
 mod log;
+mod lookups;
 mod met;
 mod random;
 mod random_tables;

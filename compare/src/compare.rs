@@ -2,6 +2,7 @@
 use crate::checks::{Played, Rule};
 use crate::coverage::Coverage;
 use crate::log::{self, Command, Next};
+use crate::observations::Observation;
 use crate::record::{Bytes, Question, Record};
 use crate::reference::{Reference, Step};
 use crate::situations::Seen;
@@ -92,9 +93,9 @@ impl Comparison<'_> {
             tally.coverage.situations(&Seen { before, command, after: &kernel });
         }
         tally.coverage.command(command, &step);
-        tally.coverage.record(&kernel);
         let before = self.before.as_ref().map(|r| (r, self.asked.question(self.index - 1)));
         let question = self.asked.question(self.index);
+        self.covered(&kernel, question, tally);
         let played = Played { command, original_target: target, before, after: &kernel, question };
         if let Err(what) = tally.rule.check(&played) {
             return self.differ(format!("the iteration rule: {what}"), end, kernel.clone(), Some(kernel));
@@ -110,9 +111,18 @@ impl Comparison<'_> {
         let step = Step { answer, detail: 0, own: answer, intended: None };
         let kernel = self.same(&step, self.asked.log.len())?;
         tally.coverage.stop(answer);
-        tally.coverage.record(&kernel);
+        self.covered(&kernel, self.asked.question(self.index), tally);
         self.index += 1;
         Ok(())
+    }
+
+    /// Counts a record, and what was observed.
+    fn covered(&self, tables: &Record, question: Option<Question>, tally: &mut Tally) {
+        tally.coverage.record(tables);
+        if let (Some(question), Some(observed)) = (question, &tables.observed) {
+            let original = self.reference.kernel();
+            tally.coverage.observation(&Observation { question, observed, tables, original });
+        }
     }
 
     /// The kernel's next record, equal to lib.rs's; in the place of lib.rs's answer it refuses only where it may.

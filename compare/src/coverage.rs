@@ -1,6 +1,8 @@
 //! What a run met: answers by command, sizes reached, refusals that lib.rs does not have, by lib.rs's own answer.
 use crate::intended::{self, IN_LOGS};
 use crate::log::{Command, NAMES};
+use crate::lookups::Lookups;
+use crate::observations::{Observation, OBSERVATIONS};
 use crate::record::Record;
 use crate::reference::Step;
 use crate::situations::{Seen, SITUATIONS};
@@ -33,11 +35,13 @@ pub struct Coverage {
     /// Logs that ended in 11 and in 12.
     pub stops: [u64; 2],
     pub observed: u64,
+    lookups: Lookups,
     answers: [[u64; 13]; 16],
     checks: [[u64; 13]; 2],
     intended: [[u64; 10]; IN_LOGS.len()],
     longest_run: u64,
     situations: [u64; SITUATIONS.len()],
+    observations: [u64; OBSERVATIONS.len()],
     /// Nodes, declarations, links, live links, generation, links in a chain.
     largest: [u64; 6],
 }
@@ -76,11 +80,25 @@ impl Coverage {
         for (largest, n) in self.largest.iter_mut().zip(seen) {
             *largest = (*largest).max(n);
         }
-        if let Some(observed) = &record.observed {
-            self.observed += 1;
-            self.checks[0][usize::from(observed.check_iteration)] += 1;
-            self.checks[1][usize::from(observed.check_insert)] += 1;
+    }
+
+    /// What the observers answered.
+    pub fn observation(&mut self, observation: &Observation) {
+        let observed = observation.observed;
+        self.observed += 1;
+        self.lookups.resolve(observed.resolve);
+        self.lookups.target(observed.target.is_some(), observed.missing);
+        self.checks[0][usize::from(observed.check_iteration)] += 1;
+        self.checks[1][usize::from(observed.check_insert)] += 1;
+        for (count, (_, such)) in self.observations.iter_mut().zip(OBSERVATIONS) {
+            *count += u64::from(such(observation));
         }
+    }
+
+    /// What is easy to get wrong, with its count.
+    fn easy_to_get_wrong(&self) -> impl Iterator<Item = (&'static str, u64)> + '_ {
+        let situations = SITUATIONS.iter().map(|(name, _)| *name).zip(self.situations);
+        situations.chain(OBSERVATIONS.iter().map(|(name, _)| *name).zip(self.observations))
     }
 
     /// The answers and situations that can occur and were not met.
@@ -88,12 +106,7 @@ impl Coverage {
         let commands = NAMES.iter().zip(REACHABLE).zip(&self.answers);
         let checks = CHECKS.iter().zip(&self.checks).map(|(&(name, reachable), met)| ((name, reachable), met));
         let rows = commands.map(|((&name, reachable), met)| ((name, reachable), met)).chain(checks);
-        let unseen = self
-            .situations
-            .iter()
-            .zip(SITUATIONS)
-            .filter(|(&count, _)| count == 0)
-            .map(|(_, (name, _))| name.to_string());
+        let unseen = self.easy_to_get_wrong().filter(|&(_, count)| count == 0).map(|(name, _)| name.to_string());
         let missing = rows.flat_map(|((name, reachable), met)| {
             let unmet = reachable.iter().filter(|&&a| met[usize::from(a)] == 0);
             unmet.map(move |a| format!("{name}: {a}")).collect::<Vec<_>>()
@@ -101,7 +114,8 @@ impl Coverage {
         missing.chain(unseen).collect()
     }
 
-    pub fn print(&self) {
+    /// How much was played, and how large the tables became.
+    fn print_sizes(&self) {
         println!(
             "commands played: {} in {} logs, longest run on one kernel {}",
             self.commands, self.logs, self.longest_run
@@ -110,10 +124,15 @@ impl Coverage {
             "runs ended by 11: {}, by 12: {}; observers asked after {} commands",
             self.stops[0], self.stops[1], self.observed
         );
+        self.lookups.print();
         println!(
             "largest: {} identities, {} declarations, {} links, {} live links, generation {}, a chain of {} live links",
             self.largest[0], self.largest[1], self.largest[2], self.largest[3], self.largest[4], self.largest[5]
         );
+    }
+
+    pub fn print(&self) {
+        self.print_sizes();
         println!();
         println!("| command | done | {} |", (1..=9).map(|n| n.to_string()).collect::<Vec<_>>().join(" | "));
         println!("|---|{}", "---|".repeat(10));
@@ -131,7 +150,7 @@ impl Coverage {
         println!();
         println!("| what is easy to get wrong | times |");
         println!("|---|---|");
-        for (count, (name, _)) in self.situations.iter().zip(SITUATIONS) {
+        for (name, count) in self.easy_to_get_wrong() {
             println!("| {name} | {count} |");
         }
         println!();

@@ -34,6 +34,7 @@ pub fn all() -> Vec<(String, Tables)> {
     found.extend(generations());
     found.extend(full());
     found.extend(pairs());
+    found.extend(owners());
     found
 }
 
@@ -179,4 +180,18 @@ fn pairs() -> Vec<(String, Tables)> {
         }
     }
     found
+}
+
+/// An owner in every phase, restoring, and absent; 2, and 3 which is retired, depend on what 0 provides, then on the
+/// owner's port, then on one that nobody provides.
+fn owners() -> Vec<(String, Tables)> {
+    let start = || Tables::new().node(ACTIVE).provides(0, A);
+    let phases = [INACTIVE, LOADING, ACTIVE, UNLOADING].map(|phase| (format!("phase {phase}"), start().node(phase)));
+    let others = [("restoring".to_string(), start().restoring()), ("absent".to_string(), start().absent())];
+    let depend = |kernel: Tables, id| kernel.depends(id, A).depends(id, B).depends(id, MISSING);
+    let waiting = |kernel: Tables| {
+        let kernel = kernel.provides(1, B).node(INACTIVE).node(INACTIVE).retired(true);
+        [2, 3].into_iter().fold(kernel, depend)
+    };
+    phases.into_iter().chain(others).map(|(kind, kernel)| (format!("an owner, {kind}"), waiting(kernel))).collect()
 }

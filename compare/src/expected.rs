@@ -1,4 +1,4 @@
-//! expected [--answers] FILE...: what the log player must print for each log, by lib.rs's bodies.
+//! expected [--answers | --status] FILE...: what the log player must print for each log, by lib.rs's bodies.
 // the modules have parts that only the other programs use
 #![allow(dead_code)]
 
@@ -8,33 +8,36 @@ mod log;
 mod record;
 mod reference;
 mod sizes;
+mod status;
 mod text;
 
 use log::Next;
 use reference::Reference;
 
+/// The part that is printed: all, the commands' answers alone, or the components' status alone.
+#[derive(Clone, Copy, PartialEq)]
+enum Part {
+    All,
+    Answers,
+    Status,
+}
+
 fn main() {
-    let mut files: Vec<String> = std::env::args().skip(1).collect();
-    // with --answers the answers alone, as the program for the desk prints them
-    let answers_only = files.first().is_some_and(|f| f == "--answers");
-    if answers_only {
-        files.remove(0);
-    }
-    for file in &files {
+    let words: Vec<String> = std::env::args().skip(1).collect();
+    let (part, files) = match words.split_first() {
+        Some((word, files)) if word == "--answers" => (Part::Answers, files),
+        Some((word, files)) if word == "--status" => (Part::Status, files),
+        _ => (Part::All, words.as_slice()),
+    };
+    for file in files {
         let log = std::fs::read(file).unwrap_or_else(|e| fail(file, &e.to_string()));
         if log.len() > log::LONGEST {
             fail(file, "longer than 65,536 bytes");
         }
-        let (answers, tables) = play(&log);
-        if !answers_only {
+        if part == Part::All {
             println!("== {}", file.rsplit('/').next().unwrap_or(file));
         }
-        for (count, answer) in answers.iter().enumerate() {
-            println!("{count} {answer}");
-        }
-        if !answers_only {
-            println!("{tables}");
-        }
+        print(part, &log);
     }
 }
 
@@ -43,8 +46,22 @@ fn fail(file: &str, why: &str) -> ! {
     std::process::exit(1);
 }
 
-/// A log's answers, and the tables that it leaves.
-fn play(log: &[u8]) -> (Vec<u8>, String) {
+/// A line for each command, the tables, and a line for each present component, as far as they are asked for.
+fn print(part: Part, log: &[u8]) {
+    let (answers, reference) = play(log);
+    if part != Part::Status {
+        answers.iter().enumerate().for_each(|(count, answer)| println!("{count} {answer}"));
+    }
+    if part == Part::All {
+        println!("{}", text::tables(&reference.record(0, 0, None)));
+    }
+    if part != Part::Answers {
+        status::lines(reference.kernel()).iter().for_each(|line| println!("{line}"));
+    }
+}
+
+/// A log's answers, and the kernel that it leaves.
+fn play(log: &[u8]) -> (Vec<u8>, Reference) {
     let mut reference = Reference::new();
     let (mut answers, mut at) = (Vec::new(), 0);
     loop {
@@ -62,5 +79,5 @@ fn play(log: &[u8]) -> (Vec<u8>, String) {
             }
         }
     }
-    (answers, text::tables(&reference.record(0, 0, None)))
+    (answers, reference)
 }

@@ -1,4 +1,5 @@
-//! logs SEED DIR: writes the log files that the program `replay` plays. logs shift FILE: writes the sample shift.
+//! logs SEED DIR: writes the log files that the program `replay` plays. logs shift FILE: writes the sample shift. logs
+//! status DIR: writes those that the program `status` plays.
 // the modules have parts that only `run` uses
 #![allow(dead_code)]
 
@@ -11,6 +12,7 @@ mod random;
 mod scenarios;
 mod script;
 mod sizes;
+mod status_logs;
 mod steps;
 
 use random::Random;
@@ -24,6 +26,9 @@ fn main() -> std::io::Result<()> {
     if first == "shift" {
         return std::fs::write(path, scenarios::shift());
     }
+    if first == "status" {
+        return status_logs::all().iter().try_for_each(|(name, log)| std::fs::write(format!("{path}/{name}"), log));
+    }
     let Ok(seed) = first.parse() else { usage() };
     let scenarios = scenarios::all().into_iter().map(|(_, log)| log);
     for (number, log) in scenarios.chain(random_logs(seed)).enumerate() {
@@ -34,7 +39,7 @@ fn main() -> std::io::Result<()> {
 }
 
 fn usage() -> ! {
-    eprintln!("use: logs SEED DIR | logs shift FILE");
+    eprintln!("use: logs SEED DIR | logs shift FILE | logs status DIR");
     std::process::exit(2);
 }
 

@@ -1,6 +1,7 @@
 //! What a comparison on kernels made by hand met: kernels, answers by command, refusals that lib.rs does not have, by lib.rs's own answer.
 use crate::calls::Call;
 use crate::intended::{self, Intended};
+use crate::lookups::Lookups;
 use crate::record::{Record, ACTIVE, LOADING};
 use crate::reference::{Reference, Step};
 use crate::sizes::{DECLARATIONS, IDENTITIES, LINKS};
@@ -65,6 +66,7 @@ pub struct Met {
     pub commands: u64,
     pub questions: u64,
     pub tables: u64,
+    pub lookups: Lookups,
     kinds: [u64; KINDS.len()],
     answers: [[u64; 10]; 16],
     intended: [[u64; 10]; INTENDED.len()],
@@ -105,6 +107,7 @@ impl Met {
             "begin done at generation 2^64 - 2: {}, refused at 2^64 - 1: {}",
             self.last_begins[0], self.last_begins[1]
         );
+        self.lookups.print();
         println!("\n| kernels with | times |\n|---|---|");
         for (count, (name, _)) in self.kinds.iter().zip(KINDS) {
             println!("| {name} | {count} |");

@@ -1,5 +1,5 @@
 //! What the observers are asked after each command of a log.
-use crate::guide::Guide;
+use crate::guide::{Declaration, Guide};
 use crate::log::{self, Command, Next};
 use crate::random::Random;
 use crate::record::Question;
@@ -21,7 +21,7 @@ pub fn of(log: &[u8], random: &mut Random) -> Vec<Question> {
 }
 
 fn question(next: Option<&Command>, guide: &Guide, random: &mut Random) -> Question {
-    let declared = random.pick(&guide.declarations);
+    let declared = declaration(guide, random);
     let port = next.and_then(|c| c.port()).filter(|_| random.chance(50));
     let port = port.or(declared.map(|d| d.port)).unwrap_or(P);
     let identity = match (next.and_then(|c| c.identity()), declared) {
@@ -30,6 +30,18 @@ fn question(next: Option<&Command>, guide: &Guide, random: &mut Random) -> Quest
         _ => any_identity(random),
     };
     Question { identity, key: port.key, realm: port.realm }
+}
+
+/// Any declaration; one time in four a provision of a retired or removed owner, if there is one.
+fn declaration(guide: &Guide, random: &mut Random) -> Option<Declaration> {
+    if random.chance(25) {
+        let provisions = guide.declarations.iter().filter(|d| d.provides && guide.nodes[d.owner].retired);
+        let found = random.pick(&provisions.copied().collect::<Vec<_>>());
+        if found.is_some() {
+            return found;
+        }
+    }
+    random.pick(&guide.declarations)
 }
 
 /// The whole commands of a log.

@@ -42,6 +42,24 @@ pub struct Question {
     pub realm: u64,
 }
 
+/// What looking up a port answers: the Active provider, a present owner that is not Active, or that there is none.
+#[derive(PartialEq, Debug, Clone, Copy)]
+pub enum Lookup {
+    Provider(u64),
+    NotActive(u64),
+    NoOwner,
+    /// No kernel's answer: lib.rs's resolve is not the Active owner that its tables have.
+    Disputed,
+}
+
+/// A dependency that does not resolve, and what looking it up answers; target names the first of a component.
+#[derive(PartialEq, Debug, Clone, Copy)]
+pub struct Missing {
+    pub key: u64,
+    pub realm: u64,
+    pub found: Lookup,
+}
+
 /// Every observer's answer to one question; an optional answer is yes/no and a number.
 #[derive(PartialEq, Debug, Clone)]
 pub struct Observed {
@@ -58,8 +76,9 @@ pub struct Observed {
     pub provision_reserved: u8,
     pub ids: Vec<u8>,
     pub children: Vec<u8>,
-    pub resolve: (u8, u64),
+    pub resolve: Lookup,
     pub target: Option<Vec<Binding>>,
+    pub missing: Option<Missing>,
     pub committed: Vec<Binding>,
     pub check_iteration: u8,
     pub check_insert: u8,
@@ -73,6 +92,14 @@ pub struct Record {
     pub declarations: Vec<Declaration>,
     pub links: Vec<Link>,
     pub observed: Option<Observed>,
+}
+
+impl Record {
+    /// Whether a removed owner's provision of a port still stands.
+    pub fn provided_by_removed(&self, key: u64, realm: u64) -> bool {
+        let provisions = self.declarations.iter().filter(|d| d.provides == 1);
+        provisions.filter(|d| d.key == key && d.realm == realm).any(|d| self.nodes[d.owner as usize].present == 0)
+    }
 }
 
 /// The phases' numbers in a record, and that of no phase.
@@ -153,8 +180,32 @@ impl Bytes<'_> {
         }
     }
 
+    /// A lookup's answer; where there is no owner the identity is 0.
+    fn lookup(&mut self) -> Option<Lookup> {
+        match self.optional()? {
+            (1, id) => Some(Lookup::Provider(id)),
+            (2, id) => Some(Lookup::NotActive(id)),
+            (0, 0) => Some(Lookup::NoOwner),
+            _ => None,
+        }
+    }
+
+    /// Nothing, or a dependency that no Active provider was found for.
+    fn missing(&mut self) -> Option<Option<Missing>> {
+        match self.u8()? {
+            0 => return Some(None),
+            1 => {}
+            _ => return None,
+        }
+        let missing = Missing { key: self.u64()?, realm: self.u64()?, found: self.lookup()? };
+        match missing.found {
+            Lookup::Provider(_) => None,
+            _ => Some(Some(missing)),
+        }
+    }
+
     fn observed(&mut self) -> Option<Observed> {
-        Some(Observed {
+        let observed = Observed {
             sound: self.u8()?,
             contains: self.u8()?,
             phase: self.u8()?,
@@ -168,12 +219,15 @@ impl Bytes<'_> {
             provision_reserved: self.u8()?,
             ids: self.identities()?,
             children: self.identities()?,
-            resolve: self.optional()?,
+            resolve: self.lookup()?,
             target: self.target()?,
+            missing: self.missing()?,
             committed: self.bindings()?,
             check_iteration: self.u8()?,
             check_insert: self.u8()?,
-        })
+        };
+        // where there is a target nothing is missing
+        (observed.target.is_none() || observed.missing.is_none()).then_some(observed)
     }
 
     /// The next record; none if the bytes are no record.

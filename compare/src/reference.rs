@@ -6,6 +6,10 @@ use crate::record::{self, Observed, Question, Record};
 
 include!(env!("ORIGINAL_RS"));
 
+// within this module, since it reads lib.rs's tables
+#[path = "lookup.rs"]
+pub mod lookup;
+
 /// What lib.rs's Vec has beyond Rust's.
 trait Set<T> {
     fn set(&mut self, at: usize, value: T);
@@ -201,8 +205,9 @@ impl Reference {
             provision_reserved: kernel.provision_reserved(id, asked).into(),
             ids: kernel.ids().iter().map(|&i| i as u8).collect(),
             children: kernel.children(id).iter().map(|&i| i as u8).collect(),
-            resolve: optional(kernel.resolve(asked).map(|i| i as u64)),
+            resolve: lookup::lookup(kernel, asked),
             target: self.target(q.identity),
+            missing: lookup::missing(kernel, id),
             committed: bindings(kernel.committed(id)),
             check_iteration: self.check_iteration(id),
             check_insert: self.check_insert(parent_of(q.identity)).answer,
@@ -244,7 +249,7 @@ fn optional(value: Option<u64>) -> (u8, u64) {
     value.map_or((0, 0), |v| (1, v))
 }
 
-fn port(p: log::Port) -> Port {
+pub fn port(p: log::Port) -> Port {
     Port { key: p.key, realm: p.realm }
 }
 

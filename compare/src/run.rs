@@ -1,5 +1,5 @@
 //! run COMMANDS SEED [random]: plays logs on lib.rs's bodies and on the compiled kernel, and compares after each
-//! command. With `random` the scenarios are left out.
+//! command. With `random` the logs written by hand are left out.
 // the modules have parts that only the other programs use
 #![allow(dead_code)]
 
@@ -11,6 +11,8 @@ mod generator;
 mod guide;
 mod intended;
 mod log;
+mod lookups;
+mod observations;
 mod operands;
 mod profile;
 mod questions;
@@ -22,6 +24,7 @@ mod scenarios;
 mod script;
 mod situations;
 mod sizes;
+mod status_logs;
 mod steps;
 mod text;
 
@@ -40,12 +43,13 @@ fn main() {
         eprintln!("use: run COMMANDS SEED [random]");
         std::process::exit(2);
     };
-    let scenarios = if words.iter().any(|w| w == "random") { Vec::new() } else { scenarios::all() };
+    let random_alone = words.iter().any(|w| w == "random");
+    let written = if random_alone { Vec::new() } else { [scenarios::all(), status_logs::all().to_vec()].concat() };
     let mut tally = Tally { coverage: Coverage::default(), rule: Rule::new() };
     let mut out = vec![0; OUT];
     let mut random = Random::new(seed);
     println!("seed {seed}");
-    for (_, log) in scenarios {
+    for (_, log) in written {
         play(&ask(log, 1, &mut random), &mut out, &mut tally);
     }
     while tally.coverage.commands < commands {

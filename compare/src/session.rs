@@ -6,7 +6,7 @@ use crate::log::Port;
 use crate::met::{Met, CHECK_INSERT, CHECK_ITERATION};
 use crate::random::Random;
 use crate::record::Record;
-use crate::reference::{Reference, Step};
+use crate::reference::{self, lookup, Reference, Step};
 use crate::sound::sound;
 use crate::text;
 use crate::tried::{self, Trial};
@@ -75,6 +75,7 @@ impl Session<'_> {
         self.ask(asked::of_all(self.reference.kernel()));
         for &id in identities {
             self.ask(asked::of_identity(self.reference.kernel(), id));
+            self.target(id);
             let own = self.reference.check_iteration(id);
             self.met.answer(CHECK_ITERATION, &Step { answer: own, detail: 0, own, intended: None });
             self.ask(vec![(format!("check_iteration {id}"), refusal(own))]);
@@ -83,8 +84,18 @@ impl Session<'_> {
             }
         }
         for &port in ports {
-            self.ask(vec![asked::of_port(self.reference.kernel(), port)]);
+            let answer = lookup::lookup(self.reference.kernel(), reference::port(port));
+            self.met.lookups.resolve(answer);
+            self.ask(vec![asked::resolve(port, answer)]);
         }
+    }
+
+    fn target(&mut self, id: usize) {
+        let kernel = self.reference.kernel();
+        let missing = lookup::missing(kernel, id);
+        let asked = asked::target(kernel, id, missing);
+        self.met.lookups.target(kernel.target(id).is_some(), missing);
+        self.ask(vec![asked]);
     }
 
     /// The lists that insert and configure take, and use up.

@@ -47,7 +47,7 @@ pub const SITUATIONS: [Situation; 23] = [
         let adds = matches!(s.command, Command::Declare(..) | Command::Insert(_)) && s.after.answer == 0;
         adds && s.after.declarations[s.before.declarations.len()..]
             .iter()
-            .any(|d| d.provides == 1 && s.tombstone(d.key, d.realm))
+            .any(|d| d.provides == 1 && s.before.provided_by_removed(d.key, d.realm))
     }),
     ("configure done that drops dependencies", |s| configured(s, 0) && s.own_dependencies(s.before) > 0),
     ("configure done, the declarations before it and its list over 256", |s| {
@@ -126,12 +126,5 @@ impl Seen<'_> {
     /// The providers of the links that the command added.
     fn added_links(&self) -> impl Iterator<Item = u64> + '_ {
         self.after.links[self.before.links.len()..].iter().map(|l| l.binding.provider)
-    }
-
-    /// Whether a removed owner's provision of a port still stands.
-    fn tombstone(&self, key: u64, realm: u64) -> bool {
-        let nodes = &self.before.nodes;
-        let provisions = self.before.declarations.iter().filter(|d| d.provides == 1);
-        provisions.filter(|d| d.key == key && d.realm == realm).any(|d| nodes[d.owner as usize].present == 0)
     }
 }

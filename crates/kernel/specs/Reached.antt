@@ -14,6 +14,7 @@ use Rattle.model.specs.Commands.{Command}
 use Rattle.model.specs.Iteration.{Agree, RuleAt, committedOf, last, targetOf}
 use Rattle.model.specs.Kernels.{AnsweredAt, emptyKernel, reached}
 use Rattle.model.specs.Refusals.{Reply}
+use Rattle.model.specs.Resolution.{targetList}
 use Rattle.model.specs.Space.{BegunAfterCompaction, RefusedForSpace}
 use Rattle.results.specs.Results.{committedBindings, targetBindings}
 use Rattle.sizes.specs.Sizes.{DECLARATIONS, LINKS, sizes}
@@ -42,11 +43,11 @@ pub record ObserversAgree (k m : Kernel) (id : ℕ) : Type 0 where
   pub targets :
       let t = targetBindings (targetOf sizes (layoutOf k) id) in
       let u = targetBindings (targetOf sizes (layoutOf m) id) in
-      ((t .there ≡ u .there) × Agree (t .bindings) (t .count) (u .bindings) (u .count)) ↔ (targetOf sizes (layoutOf k) id ≡ targetOf sizes (layoutOf m) id)
+      ((t .there ≡ u .there) × Agree (t .bindings) (t .count) (u .bindings) (u .count)) ↔ (targetList (targetOf sizes (layoutOf k) id) ≡ targetList (targetOf sizes (layoutOf m) id))
   pub committed :
       let t = targetBindings (targetOf sizes (layoutOf k) id) in
       let c = committedBindings (committedOf sizes (layoutOf m) id) in
-      ((t .there ≡ true) × Agree (t .bindings) (t .count) (c .bindings) (c .count)) ↔ (targetOf sizes (layoutOf k) id ≡ some (committedOf sizes (layoutOf m) id))
+      ((t .there ≡ true) × Agree (t .bindings) (t .count) (c .bindings) (c .count)) ↔ (targetList (targetOf sizes (layoutOf k) id) ≡ some (committedOf sizes (layoutOf m) id))
 
 -- every reached kernel is sound, and no command on it answers 10
 abbrev pub ReachedSound : Type 0

@@ -1,11 +1,8 @@
 // resolve, target, committed.
 ghost use mathlib.Core.Path.{_≡_};
 ghost use mathlib.Core.List.{[]};
-ghost use mathlib.Core.Option.{none};
 ghost use Rattle.kernel.specs.Fields.{ask};
-ghost use Rattle.model.specs.Answers.{resolution};
-ghost use Rattle.model.specs.Resolution.{resolve, target, committed};
-ghost use Rattle.model.specs.Tables.{providing};
+ghost use Rattle.model.specs.Resolution.{Target, resolve, target, committed};
 ghost use Rattle.results.specs.Results.{targetBindings, committedBindings};
 use crate::Kernel;
 use model::Port;
@@ -14,12 +11,12 @@ use results::CommittedBindings;
 use results::TargetBindings;
 
 impl Kernel {
-    // The Active owner that provides the port.
+    // Who provides the port: the Active provider, a present owner that is not Active, or no present owner.
     pub fn resolve(self, port: Port) -> Resolution
-        ensures { λ r. ⌜ r ≡ resolution (ask self none (λ T. resolve (providing (T .nodes)) (T .declarations) port)) ⌝ }
+        ensures { λ r. ⌜ r ≡ ask self Resolution.NoOwner (λ T. resolve T port) ⌝ }
     {
         if !self.sound() {
-            return Resolution::None;
+            return Resolution::NoOwner;
         }
         let nodes = self.nodes;
         let declarations = self.declarations;
@@ -27,9 +24,9 @@ impl Kernel {
         scans::resolve_table(nodes, declarations, count, port)
     }
 
-    // A binding for each dependency, in declaration order; none if a port does not resolve or the node is retired or absent.
+    // A binding for each dependency, in declaration order; none, with the first port that does not resolve; none of a retired or absent component.
     pub fn target(self, id: usize) -> TargetBindings
-        ensures { λ r. ⌜ r ≡ targetBindings (ask self none (λ T. target T id)) ⌝ }
+        ensures { λ r. ⌜ r ≡ targetBindings (ask self Target.nothing (λ T. target T id)) ⌝ }
     {
         let entry = self.entry(id);
         let node = entry.node;

@@ -6,7 +6,6 @@ use Rattle.model.specs.declared.InsertAnswer.{InsertAnswer}
 use Rattle.model.specs.declared.OptionGeneration.{OptionGeneration}
 use Rattle.model.specs.declared.OptionPhase.{OptionPhase}
 use Rattle.model.specs.declared.Phase.{Phase}
-use Rattle.model.specs.declared.Resolution.{Resolution}
 use Rattle.model.specs.Refusals.{Reply, Tests, first, number, orElse}
 
 -- a command or a check: done, or the refusal
@@ -33,11 +32,6 @@ removedCount Reply.done = 0
 removedCount (Reply.issued id) = 0
 removedCount (Reply.removed n) = n
 removedCount (Reply.refused e) = 0
-
--- resolve: a provider or none
-abbrev pub resolution : Option ℕ → Resolution
-resolution none = Resolution.None
-resolution (some o) = Resolution.Provider o
 
 abbrev pub optionPhase : Option Phase → OptionPhase
 optionPhase none = OptionPhase.None

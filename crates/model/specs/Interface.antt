@@ -11,9 +11,9 @@ use Rattle.model.specs.declared.records.Node.{Node}
 use Rattle.model.specs.declared.Port.{Port}
 use Rattle.model.specs.declared.PortList.{PortList}
 use Rattle.model.specs.Lists.{any, keep, padded}
-use Rattle.model.specs.Records.{blankPort, declaredPort, dependency, isPending, isRunning, ownerIn, portIn, providerIn, provision, samePort}
+use Rattle.model.specs.Records.{blankPort, dependency, isPending, isRunning, portIn, providerIn, provision, samePort}
 use Rattle.model.specs.Refusals.{Tests}
-use Rattle.model.specs.Resolution.{isDependencyOf}
+use Rattle.model.specs.Resolution.{isDependencyOf, offers}
 use Rattle.model.specs.Sizes.{Sizes, listLimit}
 use Rattle.model.specs.Soundness.{declares, isDeclaration}
 use Rattle.model.specs.Tables.{Tables, nodeAt, present, withDeclarations}
@@ -47,12 +47,9 @@ absent n = (not (n .present), Error.Unknown)
 
 -- ---- declare_provision
 
--- a provision of the port by a present owner, whatever its phase or retirement
-unfoldable pub takenBy : (ℕ → Bool) → Port → Declaration → Bool
-takenBy here p d = d .provides && samePort (declaredPort d) p && here (ownerIn d)
-
+-- a present owner provides the port
 unfoldable pub taken : Tables → Port → Bool
-taken T p = any (takenBy (present (T .nodes)) p) (T .declarations)
+taken T p = any (offers (present (T .nodes)) p) (T .declarations)
 
 -- this owner provides the port: declaring it again is done, unchanged
 abbrev pub own : Tables → ℕ → Port → Bool

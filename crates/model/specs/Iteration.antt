@@ -17,13 +17,13 @@ use Rattle.model.specs.Lifecycle.{checkIteration}
 use Rattle.model.specs.Observers.{phase}
 use Rattle.model.specs.Records.{blankBinding, isLoading, isRunning}
 use Rattle.model.specs.Refusals.{Reply, accepted}
-use Rattle.model.specs.Resolution.{committed, target}
+use Rattle.model.specs.Resolution.{Target, committed, target, targetList}
 use Rattle.model.specs.Sizes.{Sizes}
 
 -- ---- what the observers and check_iteration give of a kernel
 
-abbrev pub targetOf : Sizes → Layout → ℕ → Option (List Binding)
-targetOf S k id = asked S k none (λ T. target T id)
+abbrev pub targetOf : Sizes → Layout → ℕ → Target
+targetOf S k id = asked S k Target.nothing (λ T. target T id)
 
 abbrev pub committedOf : Sizes → Layout → ℕ → List Binding
 committedOf S k id = asked S k [] (λ T. committed (T .links) id)
@@ -56,7 +56,7 @@ begins id Command.compactDeclarations = false
 -- what target gave on the kernel handed to the component's latest begin that was accepted
 unfoldable pub lastFrom : Sizes → Layout → ℕ → List Command → Option (List Binding) → Option (List Binding)
 lastFrom S k id [] a = a
-lastFrom S k id (c ∷ cs) a = lastFrom S ((commanded S k c) .kernel) id cs (cond (begins id c && accepted ((commanded S k c) .reply)) (targetOf S k id) a)
+lastFrom S k id (c ∷ cs) a = lastFrom S ((commanded S k c) .kernel) id cs (cond (begins id c && accepted ((commanded S k c) .reply)) (targetList (targetOf S k id)) a)
 
 -- in a list from the empty kernel; none if there was no such begin
 abbrev pub last : Sizes → List Command → ℕ → Option (List Binding)
@@ -86,7 +86,7 @@ pub record Rule (phase : Option Phase) (begun : Option (List Binding)) (committe
 abbrev pub RuleAt : Sizes → Layout → ℕ → Option (List Binding) → Type 0
 RuleAt S k id begun =
     let o = commanded S k (Command.leaveIfChanged id) in
-    Rule (phaseOf S k id) begun (committedOf S k id) (targetOf S k id) (iterationOf S k id) (o .reply) (phaseOf S (o .kernel) id)
+    Rule (phaseOf S k id) begun (committedOf S k id) (targetList (targetOf S k id)) (iterationOf S k id) (o .reply) (phaseOf S (o .kernel) id)
 
 -- one claim about every list of commands
 abbrev pub IterationRule : Type 0

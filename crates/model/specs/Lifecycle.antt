@@ -14,7 +14,7 @@ use Rattle.model.specs.Interface.{absent, unknown}
 use Rattle.model.specs.Lists.{any, isNone}
 use Rattle.model.specs.Records.{absentNode, deadFor, isChildOf, isInactive, isLoading, isRunning, isUnloading, liveLink, providerIn, restoredNode, restoringNode, retiredNode, startedNode, withPhase}
 use Rattle.model.specs.Refusals.{Reply, Tests, first, orElse}
-use Rattle.model.specs.Resolution.{target}
+use Rattle.model.specs.Resolution.{target, targetList}
 use Rattle.model.specs.Sizes.{Sizes, lastGeneration}
 use Rattle.model.specs.Tables.{Tables, nodeAt, withNode}
 
@@ -33,7 +33,7 @@ abbrev pub beginNodeTests : Node → Tests
 beginNodeTests n = absent n ∷ (not (isInactive (n .phase)), Error.InvalidState) ∷ (n .retired, Error.Retired) ∷ (eqb (n .generation) lastGeneration, Error.Capacity) ∷ []
 
 abbrev pub beginTests : Sizes → Tables → ℕ → Tests
-beginTests S T id = beginNodeTests (nodeAt (T .nodes) id) ++ ((isNone (target T id), Error.MissingDependency) ∷ (ltb (S .links) (length (T .links) + length (bindings (target T id))), Error.Capacity) ∷ [])
+beginTests S T id = beginNodeTests (nodeAt (T .nodes) id) ++ ((isNone (targetList (target T id)), Error.MissingDependency) ∷ (ltb (S .links) (length (T .links) + length (bindings (targetList (target T id)))), Error.Capacity) ∷ [])
 
 -- Loading, the next generation
 abbrev pub begunNode : Node → Node
@@ -45,7 +45,7 @@ begunWith T id bs = record { nodes = set (T .nodes) id (begunNode (nodeAt (T .no
 
 -- the target is
 abbrev pub begun : Tables → ℕ → Tables
-begun T id = begunWith T id (bindings (target T id))
+begun T id = begunWith T id (bindings (targetList (target T id)))
 
 -- ---- check_iteration and finish
 
@@ -54,7 +54,7 @@ abbrev pub loadingTests : Node → Tests
 loadingTests n = absent n ∷ (not (isLoading (n .phase)), Error.InvalidState) ∷ []
 
 abbrev pub iterationTests : Tables → ℕ → Tests
-iterationTests T id = loadingTests (nodeAt (T .nodes) id) ++ ((isNone (target T id), Error.Changed) ∷ [])
+iterationTests T id = loadingTests (nodeAt (T .nodes) id) ++ ((isNone (targetList (target T id)), Error.Changed) ∷ [])
 
 unfoldable pub checkIteration : Tables → ℕ → Reply
 checkIteration T id = orElse (first (iterationTests T id)) Reply.done
@@ -72,7 +72,7 @@ abbrev pub leaveTests : Tables → ℕ → Tests
 leaveTests T id = runningTests (nodeAt (T .nodes) id)
 
 abbrev pub leaveIfChangedTests : Tables → ℕ → Tests
-leaveIfChangedTests T id = runningTests (nodeAt (T .nodes) id) ++ ((not (isNone (target T id)), Error.Changed) ∷ [])
+leaveIfChangedTests T id = runningTests (nodeAt (T .nodes) id) ++ ((not (isNone (targetList (target T id))), Error.Changed) ∷ [])
 
 abbrev pub left : Tables → ℕ → Tables
 left T id = withNode T id (withPhase Phase.Unloading (nodeAt (T .nodes) id))

@@ -65,9 +65,22 @@ pub enum InsertAnswer {
     Refused(Error),
 }
 
-// What resolve answers: a provider's identity, or none.
+// What resolve answers: the Active provider; a present owner that provides the port but is not Active; no present owner.
 pub enum Resolution {
     Provider(usize),
+    NotActive(usize),
+    NoOwner,
+}
+
+// A dependency that did not resolve: its port, and what looking it up answered.
+pub struct Unresolved {
+    pub port: Port,
+    pub found: Resolution,
+}
+
+// What target says is missing.
+pub enum OptionUnresolved {
+    Some(Unresolved),
     None,
 }
 

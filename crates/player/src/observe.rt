@@ -9,6 +9,7 @@ use kernel::Kernel;
 use model::Binding;
 use model::OptionGeneration;
 use model::OptionPhase;
+use model::OptionUnresolved;
 use model::Port;
 use model::Resolution;
 use results::CommittedBindings;
@@ -36,13 +37,33 @@ fn generation(out: &mut [u8], at: usize, answer: OptionGeneration) -> usize
     }
 }
 
+// 1 and the Active provider, 2 and the present owner that is not Active, or 0 and 0.
 fn resolution(out: &mut [u8], at: usize, answer: Resolution) -> usize
     ensures { λ r. ⌜ r ≤ length (now (out .entry)) ⌝ }
 {
     match answer {
         Resolution::Provider(id) => put::some(out, at, id as u64),
-        Resolution::None => put::none(out, at),
+        Resolution::NotActive(id) => {
+            let at = put::byte(out, at, 2);
+            put::word(out, at, id as u64)
+        }
+        Resolution::NoOwner => put::none(out, at),
     }
+}
+
+// 1, the port and what looking it up answered, or 0.
+fn unresolved(out: &mut [u8], at: usize, answer: OptionUnresolved) -> usize
+    ensures { λ r. ⌜ r ≤ length (now (out .entry)) ⌝ }
+{
+    let OptionUnresolved::Some(missing) = answer else {
+        return put::byte(out, at, 0);
+    };
+    let port = missing.port;
+    let found = missing.found;
+    let at = put::byte(out, at, 1);
+    let at = put::word(out, at, port.key);
+    let at = put::word(out, at, port.realm);
+    resolution(out, at, found)
 }
 
 fn binding(out: &mut [u8], at: usize, binding: Binding) -> usize
@@ -73,6 +94,7 @@ fn target(out: &mut [u8], at: usize, answer: TargetBindings) -> usize
 {
     let bindings = answer.bindings;
     let count = answer.count;
+    let missing = answer.missing;
     let end = loops::at_most(count, DECLARATIONS);
     let at = put::flag(out, at, answer.there);
     let mut at = put::half(out, at, count);
@@ -81,7 +103,7 @@ fn target(out: &mut [u8], at: usize, answer: TargetBindings) -> usize
         at = binding(out, at, bindings[i]);
         i += 1;
     }
-    at
+    unresolved(out, at, missing)
 }
 
 fn committed(out: &mut [u8], at: usize, answer: CommittedBindings) -> usize

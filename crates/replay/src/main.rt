@@ -1,14 +1,11 @@
-// Plays logs of commands: an answer on a line for each command, then the tables.
-use libc::STDERR_FILENO;
+// Plays logs of commands: an answer on a line for each command, then the tables, then a line for each present component.
 use libc::STDIN_FILENO;
 use text::end;
 use text::field;
 use text::number;
 
 fn cannot_read(name: &[u8]) {
-    io::write_all(STDERR_FILENO, b"replay: cannot read ");
-    io::write_all(STDERR_FILENO, name);
-    io::write_all(STDERR_FILENO, b"\n");
+    text::message(b"replay: cannot read ", name, b"");
 }
 
 // An answer's count from 0 and its number.
@@ -36,8 +33,7 @@ fn answers(out: &mut [u8], answers: &[u8], count: usize) -> usize {
 fn replay(fd: i32, name: &[u8]) {
     let mut log = io::large_buffer();
     let n = io::read_full(fd, &mut log);
-    let mut more = [0u8; 1];
-    if libc::read(fd, &mut more) < 0 {
+    if !text::readable(fd) {
         cannot_read(name);
         return;
     }
@@ -47,6 +43,7 @@ fn replay(fd: i32, name: &[u8]) {
     let mut out = io::large_buffer();
     let at = answers(&mut out, &given, played.answered);
     let at = text::stored::tables(&mut out, at, kernel);
+    let at = text::status::components(&mut out, at, kernel);
     text::flush(&out, at);
 }
 

@@ -4,7 +4,8 @@ ghost use mathlib.Core.Bool.{not, _&&_};
 ghost use lib.ListN.{take};
 ghost use Rattle.model.specs.Lists.{any};
 ghost use Rattle.model.specs.Soundness.{isDeclaration};
-ghost use Rattle.model.specs.Interface.{listed, distinct, takenBy, reliesOn};
+ghost use Rattle.model.specs.Interface.{listed, distinct, reliesOn};
+ghost use Rattle.model.specs.Resolution.{offers};
 ghost use Rattle.loops.specs.Columns.{flag};
 ghost use Rattle.sizes.specs.Sizes.{IDENTITIES};
 use crate::limits::flag_at;
@@ -40,8 +41,8 @@ pub fn declares_in(
 }
 
 // Whether this is a provision of the port by a present owner; present tells who is.
-fn taken_by(present: &[bool; IDENTITIES], port: Port, d: Declaration) -> bool
-    ensures { λ r. ⌜ r ≡ takenBy (flag IDENTITIES (now (present .entry))) port d ⌝ }
+pub fn offers(present: &[bool; IDENTITIES], port: Port, d: Declaration) -> bool
+    ensures { λ r. ⌜ r ≡ offers (flag IDENTITIES (now (present .entry))) port d ⌝ }
 {
     let declared = records::declared_port(d);
     let owner = records::owner_in(d);
@@ -57,13 +58,13 @@ pub fn taken_in(
     present: [bool; IDENTITIES],
     port: Port,
 ) -> bool
-    ensures { λ r. ⌜ r ≡ any (takenBy (flag IDENTITIES present) port) (take count declarations) ⌝ }
+    ensures { λ r. ⌜ r ≡ any (offers (flag IDENTITIES present) port) (take count declarations) ⌝ }
 {
     let end = at_most(count, DECLARATIONS);
     let mut i = 0;
     while i < end {
         let d = declarations[i];
-        if taken_by(&present, port, d) {
+        if offers(&present, port, d) {
             return true;
         }
         i += 1;
@@ -94,7 +95,7 @@ pub fn check_provisions(
     declared: usize,
     present: [bool; IDENTITIES],
 ) -> bool
-    ensures { λ r. ⌜ r ≡ distinct (listed list) && not (any (λ p. any (takenBy (flag IDENTITIES present) p) (take declared declarations)) (listed list)) ⌝ }
+    ensures { λ r. ⌜ r ≡ distinct (listed list) && not (any (λ p. any (offers (flag IDENTITIES present) p) (take declared declarations)) (listed list)) ⌝ }
 {
     let count = list.count;
     let ports = list.ports;
@@ -116,7 +117,7 @@ pub fn check_provisions(
         let mut k = 0;
         while k < table {
             let d = declarations[k];
-            if taken_by(&present, p, d) {
+            if offers(&present, p, d) {
                 ok = false;
                 break 'scan;
             }

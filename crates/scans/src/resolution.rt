@@ -1,70 +1,84 @@
 // resolve, target and committed.
 ghost use mathlib.Core.Path.{_≡_};
 ghost use mathlib.Core.List.{map};
-ghost use mathlib.Core.Option.{none};
 ghost use lib.ListN.{take};
 ghost use Rattle.model.specs.Records.{isProviding};
-ghost use Rattle.model.specs.Answers.{resolution};
-ghost use Rattle.model.specs.Resolution.{resolve, dependencyPorts, bindPorts, committed};
+ghost use Rattle.model.specs.Resolution.{Target, owned, lookUp, dependencyPorts, bindPorts, committed};
 ghost use Rattle.loops.specs.Columns.{declarationsOf, flag};
 ghost use Rattle.results.specs.Results.{targetBindings, committedBindings};
 ghost use Rattle.sizes.specs.Sizes.{DECLARATIONS, IDENTITIES};
 use crate::columns::declaration_columns;
+use crate::declarations::offers;
 use crate::limits::flag_at;
 use crate::nodes::node_flags;
 use loops::at_most;
 use model::Declaration;
 use model::Link;
 use model::Node;
+use model::OptionUnresolved;
 use model::Port;
 use model::Resolution;
+use model::Unresolved;
 use results::CommittedBindings;
 use results::TargetBindings;
 use sizes::DECLARATIONS;
 use sizes::IDENTITIES;
 use sizes::LINKS;
 
-// The first owner in the columns that provides the port; providing tells who is present and Active.
+// What is said of a present owner that provides the port: whether it is Active.
+fn owned(providing: &[bool; IDENTITIES], owner: usize) -> Resolution
+    ensures { λ r. ⌜ r ≡ owned (flag IDENTITIES (now (providing .entry))) owner ⌝ }
+{
+    if flag_at(providing, owner) {
+        Resolution::Provider(owner)
+    } else {
+        Resolution::NotActive(owner)
+    }
+}
+
+// What looking up the port finds in the columns; present tells who is, and providing who is present and Active.
 pub fn resolve_in(
     owner: &[usize; DECLARATIONS],
     key: &[u64; DECLARATIONS],
     realm: &[u64; DECLARATIONS],
     provides: &[bool; DECLARATIONS],
+    present: &[bool; IDENTITIES],
     providing: &[bool; IDENTITIES],
     count: usize,
     port: Port,
 ) -> Resolution
     ensures { λ r. ⌜
-        r ≡ resolution (resolve (flag IDENTITIES (now (providing .entry)))
-        (take count (declarationsOf DECLARATIONS (now (owner .entry)) (now (key .entry)) (now (realm .entry)) (now (provides .entry)))) port)
+        r ≡ lookUp (flag IDENTITIES (now (present .entry))) (flag IDENTITIES (now (providing .entry)))
+        (take count (declarationsOf DECLARATIONS (now (owner .entry)) (now (key .entry)) (now (realm .entry)) (now (provides .entry)))) port
         ⌝ }
 {
     let end = at_most(count, DECLARATIONS);
     let mut i = 0;
     while i < end {
         let o = owner[i];
-        let active = flag_at(providing, o);
+        let here = flag_at(present, o);
         let same = (key[i] == port.key) & (realm[i] == port.realm);
-        if provides[i] & same & active {
-            return Resolution::Provider(o);
+        if provides[i] & same & here {
+            return owned(providing, o);
         }
         i += 1;
     }
-    Resolution::None
+    Resolution::NoOwner
 }
 
-// The binding of each dependency of a component, in declaration order; none if a port does not resolve.
+// The binding of each dependency of a component, in declaration order; none at the first port that does not resolve, with the lookup's answer.
 pub fn target_in(
     owner: &[usize; DECLARATIONS],
     key: &[u64; DECLARATIONS],
     realm: &[u64; DECLARATIONS],
     provides: &[bool; DECLARATIONS],
+    present: &[bool; IDENTITIES],
     providing: &[bool; IDENTITIES],
     count: usize,
     id: usize,
 ) -> TargetBindings
     ensures { λ r. ⌜
-        r ≡ targetBindings (bindPorts (resolve (flag IDENTITIES (now (providing .entry)))
+        r ≡ targetBindings (bindPorts (lookUp (flag IDENTITIES (now (present .entry))) (flag IDENTITIES (now (providing .entry)))
         (take count (declarationsOf DECLARATIONS (now (owner .entry)) (now (key .entry)) (now (realm .entry)) (now (provides .entry)))))
         (dependencyPorts (take count (declarationsOf DECLARATIONS (now (owner .entry)) (now (key .entry)) (now (realm .entry)) (now (provides .entry)))) id))
         ⌝ }
@@ -80,20 +94,9 @@ pub fn target_in(
                 key: key[i],
                 realm: realm[i],
             };
-            let Resolution::Provider(p) = resolve_in(
-                owner,
-                key,
-                realm,
-                provides,
-                providing,
-                count,
-                port,
-            ) else {
-                return TargetBindings {
-                    bindings: [blank; DECLARATIONS],
-                    count: 0,
-                    there: false,
-                };
+            let found = resolve_in(owner, key, realm, provides, present, providing, count, port);
+            let Resolution::Provider(p) = found else {
+                return missing_target(port, found);
             };
             bindings[n] = records::binding_of(port, p);
             n += 1;
@@ -104,6 +107,7 @@ pub fn target_in(
         bindings: bindings,
         count: n,
         there: true,
+        missing: OptionUnresolved::None,
     }
 }
 
@@ -131,42 +135,57 @@ pub fn committed_in(links: [Link; LINKS], count: usize, id: usize) -> CommittedB
     }
 }
 
-// The answer where there is no target.
-pub fn no_target() -> TargetBindings
-    ensures { λ r. ⌜ r ≡ targetBindings none ⌝ }
+// No target, since this port has no provider.
+fn missing_target(port: Port, found: Resolution) -> TargetBindings
+    ensures { λ r. ⌜ r ≡ targetBindings (Target.missing (record { port = port; found = found })) ⌝ }
 {
     let blank = records::blank_binding();
     TargetBindings {
         bindings: [blank; DECLARATIONS],
         count: 0,
         there: false,
+        missing: OptionUnresolved::Some(Unresolved {
+            port: port,
+            found: found,
+        }),
     }
 }
 
-// resolve_in on tables: the first present and Active owner below the count that provides the port.
+// No target, and no dependency named.
+pub fn no_target() -> TargetBindings
+    ensures { λ r. ⌜ r ≡ targetBindings Target.nothing ⌝ }
+{
+    let blank = records::blank_binding();
+    TargetBindings {
+        bindings: [blank; DECLARATIONS],
+        count: 0,
+        there: false,
+        missing: OptionUnresolved::None,
+    }
+}
+
+// What looking up the port finds in a table, in one pass over the declarations below the count.
 pub fn resolve_table(
     nodes: [Node; IDENTITIES],
     declarations: [Declaration; DECLARATIONS],
     count: usize,
     port: Port,
 ) -> Resolution
-    ensures { λ r. ⌜ r ≡ resolution (resolve (flag IDENTITIES (map isProviding nodes)) (take count declarations) port) ⌝ }
+    ensures { λ r. ⌜ r ≡ lookUp (flag IDENTITIES (map (λ n. n .present) nodes)) (flag IDENTITIES (map isProviding nodes)) (take count declarations) port ⌝ }
 {
     let flags = node_flags(nodes);
+    let present = flags.present;
     let providing = flags.providing;
-    let mut owner = [0usize; DECLARATIONS];
-    let mut key = [0u64; DECLARATIONS];
-    let mut realm = [0u64; DECLARATIONS];
-    let mut provides = [false; DECLARATIONS];
-    declaration_columns(
-        declarations,
-        count,
-        &mut owner,
-        &mut key,
-        &mut realm,
-        &mut provides,
-    );
-    resolve_in(&owner, &key, &realm, &provides, &providing, count, port)
+    let end = at_most(count, DECLARATIONS);
+    let mut i = 0;
+    while i < end {
+        let d = declarations[i];
+        if offers(&present, port, d) {
+            return owned(&providing, records::owner_in(d));
+        }
+        i += 1;
+    }
+    Resolution::NoOwner
 }
 
 // target_in on tables: the binding of each dependency below the count of a component.
@@ -176,9 +195,10 @@ pub fn target_table(
     count: usize,
     id: usize,
 ) -> TargetBindings
-    ensures { λ r. ⌜ r ≡ targetBindings (bindPorts (resolve (flag IDENTITIES (map isProviding nodes)) (take count declarations)) (dependencyPorts (take count declarations) id)) ⌝ }
+    ensures { λ r. ⌜ r ≡ targetBindings (bindPorts (lookUp (flag IDENTITIES (map (λ n. n .present) nodes)) (flag IDENTITIES (map isProviding nodes)) (take count declarations)) (dependencyPorts (take count declarations) id)) ⌝ }
 {
     let flags = node_flags(nodes);
+    let present = flags.present;
     let providing = flags.providing;
     let mut owner = [0usize; DECLARATIONS];
     let mut key = [0u64; DECLARATIONS];
@@ -192,5 +212,14 @@ pub fn target_table(
         &mut realm,
         &mut provides,
     );
-    target_in(&owner, &key, &realm, &provides, &providing, count, id)
+    target_in(
+        &owner,
+        &key,
+        &realm,
+        &provides,
+        &present,
+        &providing,
+        count,
+        id,
+    )
 }

@@ -8,6 +8,7 @@ use crate::stored;
 use model::Binding;
 use model::OptionGeneration;
 use model::OptionPhase;
+use model::OptionUnresolved;
 use model::Resolution;
 use results::CommittedBindings;
 use results::Identities;
@@ -50,7 +51,11 @@ pub fn resolution(out: &mut [u8], at: usize, answer: Resolution) -> usize
 {
     match answer {
         Resolution::Provider(id) => field(out, at, id as u64),
-        Resolution::None => bytes(out, at, b" none"),
+        Resolution::NotActive(id) => {
+            let at = bytes(out, at, b" not active");
+            field(out, at, id as u64)
+        }
+        Resolution::NoOwner => bytes(out, at, b" no owner"),
     }
 }
 
@@ -63,6 +68,22 @@ fn binding(out: &mut [u8], at: usize, binding: Binding) -> usize
     let at = number(out, at, binding.realm);
     let at = bytes(out, at, b"@");
     number(out, at, binding.provider as u64)
+}
+
+// No target; and the dependency that is missing, if one is named: KEY/REALM and what looking it up answered.
+fn no_target(out: &mut [u8], at: usize, missing: OptionUnresolved) -> usize
+    ensures { λ r. ⌜ r ≤ length (now (out .entry)) ⌝ }
+{
+    let OptionUnresolved::Some(unresolved) = missing else {
+        return bytes(out, at, b" none");
+    };
+    let port = unresolved.port;
+    let found = unresolved.found;
+    let at = bytes(out, at, b" none,");
+    let at = field(out, at, port.key);
+    let at = bytes(out, at, b"/");
+    let at = number(out, at, port.realm);
+    resolution(out, at, found)
 }
 
 // What is said of a list before its members.
@@ -92,8 +113,9 @@ pub fn identities(out: &mut [u8], at: usize, answer: Identities) -> usize
 pub fn target(out: &mut [u8], at: usize, answer: TargetBindings) -> usize
     ensures { λ r. ⌜ r ≤ length (now (out .entry)) ⌝ }
 {
+    let missing = answer.missing;
     if !answer.there {
-        return bytes(out, at, b" none");
+        return no_target(out, at, missing);
     }
     let end = loops::at_most(answer.count, DECLARATIONS);
     let mut at = list(out, at, end);

@@ -1,18 +1,16 @@
 -- A target in the struct that holds it.
-use Rattle.model.proofs.Logic.{List, Option, _∙_, _≡_, ap, false, getD, none, not, some, sym, ℕ}
+use Rattle.model.proofs.Logic.{_∙_, _≡_, ap, false, getD, not, sym, ℕ}
 use Rattle.kernel.specs.{Fields.layoutOf, declared.Kernel.Kernel}
-use Rattle.model.specs.{Layouts.tablesOf, Lifecycle.bindings, Lists.isNone, Records.blankBinding, Records.blankNode, Resolution.target, declared.Binding.Binding}
+use Rattle.model.specs.{Layouts.tablesOf, Lifecycle.bindings, Lists.isNone, Records.blankBinding, Records.blankNode, Resolution.Target, Resolution.target, Resolution.targetList}
 use Rattle.results.specs.{Results.targetBindings, declared.TargetBindings.TargetBindings}
 use Rattle.layouts.proofs.{Laws.Anew.Holds, Laws.Sound.SoundKernel, Laws.Targets.Held, Laws.Targets.found, Laws.Targets.isUntargeted, Laws.Targets.target-found}
 use Rattle.sizes.specs.{Sizes.DECLARATIONS, Sizes.sizes}
 
-pub there-is : (r : TargetBindings) (o : Option (List Binding)) → r ≡ targetBindings o → r .there ≡ not (isNone o)
-there-is r none h = ap (λ (x : TargetBindings). x .there) h
-there-is r (some bs) h = ap (λ (x : TargetBindings). x .there) h
+pub there-is : (r : TargetBindings) (t : Target) → r ≡ targetBindings t → r .there ≡ not (isNone (targetList t))
+there-is r t h = ap (λ (x : TargetBindings). x .there) h
 
-pub bindings-are : (r : TargetBindings) (o : Option (List Binding)) → r ≡ targetBindings o → Holds DECLARATIONS blankBinding (bindings o) (r .bindings) (r .count)
-bindings-are r none h = record { entries = sym (ap (λ (x : TargetBindings). x .bindings) h); counted = sym (ap (λ (x : TargetBindings). x .count) h) }
-bindings-are r (some bs) h = record { entries = sym (ap (λ (x : TargetBindings). x .bindings) h); counted = sym (ap (λ (x : TargetBindings). x .count) h) }
+pub bindings-are : (r : TargetBindings) (t : Target) → r ≡ targetBindings t → Holds DECLARATIONS blankBinding (bindings (targetList t)) (r .bindings) (r .count)
+bindings-are r t h = record { entries = sym (ap (λ (x : TargetBindings). x .bindings) h); counted = sym (ap (λ (x : TargetBindings). x .count) h) }
 
 -- of a present component that is not retired
 pub held :

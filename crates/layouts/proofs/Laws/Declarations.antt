@@ -1,6 +1,6 @@
 -- Declarations of a sound kernel: what scans of its arrays find, and one list or record behind them.
 use Rattle.model.proofs.Logic.{Bool, List, [], _&&_, _++_, _+_, _<_, _||_, _∙_, _∷_, _≡_, _≤_, ap, append-assoc, arith, cond, false, getD, leb-false, length, length-map, length-take-le, ltb-false, map, not, refl, set, sym, take, true, ℕ}
-use Rattle.model.specs.{Insertion.clashes, Insertion.insertTests, Insertion.inserted, Insertion.parentPresent, Insertion.parentRetired, Interface.configurableTests, Interface.dependenciesConfigured, Interface.distinct, Interface.listed, Interface.own, Interface.provisionDeclared, Interface.remaining, Interface.remains, Interface.taken, Interface.takenBy, Interface.tooLong, Layouts.Layout, Layouts.Sized, Layouts.layOut, Layouts.tablesOf, Lists.any, Lists.padded, Records.blankDeclaration, Records.blankNode, Records.dependency, Records.newNode, Records.provision, Sizes.Sizes, Sizes.listLimit, Soundness.isDeclaration, Tables.Tables, Tables.present, Tables.withDeclarations, declared.Answer.Answer, declared.Parent.Parent, declared.Port.Port, declared.PortList.PortList, declared.records.Declaration.Declaration, declared.records.Node.Node}
+use Rattle.model.specs.{Insertion.clashes, Insertion.insertTests, Insertion.inserted, Insertion.parentPresent, Insertion.parentRetired, Interface.configurableTests, Interface.dependenciesConfigured, Interface.distinct, Interface.listed, Interface.own, Interface.provisionDeclared, Interface.remaining, Interface.remains, Interface.taken, Interface.tooLong, Layouts.Layout, Layouts.Sized, Layouts.layOut, Layouts.tablesOf, Lists.any, Lists.padded, Records.blankDeclaration, Records.blankNode, Records.dependency, Records.newNode, Records.provision, Resolution.offers, Sizes.Sizes, Sizes.listLimit, Soundness.isDeclaration, Tables.Tables, Tables.present, Tables.withDeclarations, declared.Answer.Answer, declared.Parent.Parent, declared.Port.Port, declared.PortList.PortList, declared.records.Declaration.Declaration, declared.records.Node.Node}
 use Rattle.layouts.proofs.{Laws.Anew.HoldsDeclarations, Laws.Anew.declarations-anew, Laws.Anew.declarations-held, Laws.Anew.declarationsTo, Laws.Anew.holds-more, Laws.Anew.holds-one, Laws.Anew.holds-padded, Laws.Anew.kept-fewer, Laws.Anew.laid-as, Laws.Anew.links-held, Laws.Anew.nodesTo, Laws.Rows.done-row, Laws.Rows.done-sound, Laws.Sound.SoundKernel, Laws.Sound.declaration-count-is, Laws.Sound.laid, Laws.Sound.node-count-is, Laws.Sound.node-is, Laws.Sound.nodes-flagged, Laws.Sound.nodes-laid}
 use Rattle.layouts.specs.{Rows.rowAnswer}
 use Rattle.loops.specs.{Columns.flag}
@@ -60,9 +60,9 @@ module _ {S : Sizes} {k : Layout} (K : SoundKernel S k) where
     flags-are : flag (S .identities) fs ≡ present ((tablesOf k) .nodes)
     flags-are = ap (λ (X : List Bool). flag (S .identities) X) f ∙ nodes-flagged K (λ n. n .present) refl
 
-    pub taken-is : {r : Bool} (p : Port) → r ≡ any (takenBy (flag (S .identities) fs) p) (take (k .declarationCount) (k .declarations)) → taken (tablesOf k) p ≡ r
+    pub taken-is : {r : Bool} (p : Port) → r ≡ any (offers (flag (S .identities) fs) p) (take (k .declarationCount) (k .declarations)) → taken (tablesOf k) p ≡ r
     unfolding taken tablesOf
-    taken-is p h = sym (h ∙ ap (λ (F : ℕ → Bool). any (takenBy F p) D) flags-are)
+    taken-is p h = sym (h ∙ ap (λ (F : ℕ → Bool). any (offers F p) D) flags-are)
 
     pub parent-is : {q : Parent} {p : ℕ} {r : Bool} → q ≡ Parent.Of p → r ≡ flag (S .identities) fs p → parentPresent (tablesOf k) q ≡ r
     unfolding parentPresent
@@ -70,13 +70,13 @@ module _ {S : Sizes} {k : Layout} (K : SoundKernel S k) where
 
     -- the two scans of an insertion's lists
     abbrev free : List Port → Bool
-    free ps = distinct ps && not (any (λ p. any (takenBy (flag (S .identities) fs) p) (take (k .declarationCount) (k .declarations))) ps)
+    free ps = distinct ps && not (any (λ p. any (offers (flag (S .identities) fs) p) (take (k .declarationCount) (k .declarations))) ps)
 
     pub clashes-are : (ds ps : PortList) {a b : Bool} → a ≡ free (listed ps) → b ≡ distinct (listed ds) → clashes (tablesOf k) ds ps ≡ not (a && b)
     unfolding tablesOf taken
     clashes-are ds ps {a} h i =
         clash-test (distinct (listed ds)) (distinct (listed ps)) (any (taken (tablesOf k)) (listed ps))
-        ∙ ap (λ (F : ℕ → Bool). not ((distinct (listed ps) && not (any (λ p. any (takenBy F p) D) (listed ps))) && distinct (listed ds))) (sym flags-are)
+        ∙ ap (λ (F : ℕ → Bool). not ((distinct (listed ps) && not (any (λ p. any (offers F p) D) (listed ps))) && distinct (listed ds))) (sym flags-are)
         ∙ ap (λ (x : Bool). not (x && distinct (listed ds))) (sym h)
         ∙ ap (λ (x : Bool). not (a && x)) (sym i)
 

@@ -1,44 +1,56 @@
 -- The target of a component of a sound kernel, as a scan of its arrays finds it.
 use Rattle.model.proofs.Logic.{Bool, List, Option, _++_, _+_, _-_, _<_, _||_, _∙_, _≡_, _≤_, _⊎_, ap, arith, cond, false, getD, inl, inr, le-ltb, length, length-map, lt-ltb, ltb, map, none, not, or-true, refl, set, some, sym, take, true, ℕ}
-use Rattle.model.specs.{Kernels.asked, Layouts.Layout, Layouts.Sized, Layouts.layOut, Layouts.soundKernel, Layouts.tablesOf, Lifecycle.begun, Lifecycle.begunNode, Lifecycle.bindings, Lists.isNone, Lists.keep, Lists.padded, Records.blankBinding, Records.blankLink, Records.blankNode, Records.isProviding, Records.liveLink, Records.portOf, Resolution.bindPorts, Resolution.dependencyPorts, Resolution.isDependencyOf, Resolution.resolve, Resolution.target, Sizes.Sizes, Tables.nodeAt, Tables.present, declared.Binding.Binding, declared.records.Link.Link, declared.records.Node.Node}
+use Rattle.model.specs.{Kernels.asked, Layouts.Layout, Layouts.Sized, Layouts.layOut, Layouts.soundKernel, Layouts.tablesOf, Lifecycle.begun, Lifecycle.begunNode, Lifecycle.bindings, Lists.isNone, Lists.keep, Lists.padded, Records.blankBinding, Records.blankLink, Records.blankNode, Records.isProviding, Records.liveLink, Records.portOf, Resolution.Target, Resolution.bindPorts, Resolution.dependencyPorts, Resolution.isDependencyOf, Resolution.lookUp, Resolution.resolve, Resolution.target, Resolution.targetList, Sizes.Sizes, Tables.nodeAt, Tables.present, declared.Binding.Binding, declared.Port.Port, declared.Resolution.Resolution, declared.records.Link.Link, declared.records.Node.Node}
 use Rattle.layouts.proofs.{Laws.Anew.Holds, Laws.Anew.holds-more, Laws.Anew.links-held, Laws.Anew.linksTo, Laws.Anew.nodesTo, Laws.Nodes.node-and-links, Laws.Sound.SoundKernel, Laws.Sound.ask-sound, Laws.Sound.declaration-count-is, Laws.Sound.laid, Laws.Sound.link-count-is, Laws.Sound.node-has, Laws.Sound.node-is, Laws.Sound.nodes-flagged}
 use Rattle.loops.specs.{Columns.flag}
 use Rattle.model.proofs.{Laws.Arrays.length-padded, Laws.Arrays.take-padded, Laws.Booleans.cases, Laws.Lists.length-keep, Laws.Resolution.bound-ports, Laws.Resolution.target-bound, Laws.Resolution.target-none, Laws.Resolution.targeted}
 
--- each dependency below the count, bound to an owner that the array's nodes show as providing
-abbrev pub found : Sizes → Layout → ℕ → Option (List Binding)
-found S k id = let ds = take (k .declarationCount) (k .declarations) in bindPorts (resolve (flag (S .identities) (map isProviding (k .nodes))) ds) (dependencyPorts ds id)
+-- what looking up a port finds in the declarations below the count, by what the array's nodes show
+abbrev pub lookedUp : Sizes → Layout → Port → Resolution
+lookedUp S k = lookUp (flag (S .identities) (map (λ n. n .present) (k .nodes))) (flag (S .identities) (map isProviding (k .nodes))) (take (k .declarationCount) (k .declarations))
+
+-- and each dependency below the count bound so
+abbrev pub found : Sizes → Layout → ℕ → Target
+found S k id = bindPorts (lookedUp S k) (dependencyPorts (take (k .declarationCount) (k .declarations)) id)
 
 -- absent or retired: it has no target
 abbrev pub isUntargeted : Node → Bool
 isUntargeted n = not (n .present) || n .retired
+
+-- of a sound kernel it is what resolve answers
+pub resolve-found : {S : Sizes} {k : Layout} → SoundKernel S k → lookedUp S k ≡ resolve (tablesOf k)
+unfolding tablesOf
+resolve-found {S} {k} K =
+    let ds = take (k .declarationCount) (k .declarations) in
+    ap (λ (F : ℕ → Bool). lookUp F (flag (S .identities) (map isProviding (k .nodes))) ds) (nodes-flagged K (λ n. n .present) refl)
+    ∙ ap (λ (F : ℕ → Bool). lookUp (present ((tablesOf k) .nodes)) F ds) (nodes-flagged K isProviding refl)
 
 module _ {S : Sizes} {k : Layout} (K : SoundKernel S k) (id : ℕ) where
   -- of a present component that is not retired it is the target
   pub target-found : isUntargeted (getD (k .nodes) id blankNode) ≡ false → target (tablesOf k) id ≡ found S k id
   unfolding tablesOf
   target-found h =
-      let ds = take (k .declarationCount) (k .declarations) in
-      target-bound (tablesOf k) id (node-has K isUntargeted id h) ∙ ap (λ (F : ℕ → Bool). bindPorts (resolve F ds) (dependencyPorts ds id)) (sym (nodes-flagged K isProviding refl))
+      target-bound (tablesOf k) id (node-has K isUntargeted id h)
+      ∙ ap (λ (f : Port → Resolution). bindPorts f (dependencyPorts (take (k .declarationCount) (k .declarations)) id)) (sym (resolve-found K))
 
   -- of a retired one there is none
-  pub target-retired : (getD (k .nodes) id blankNode) .retired ≡ true → target (tablesOf k) id ≡ none
+  pub target-retired : (getD (k .nodes) id blankNode) .retired ≡ true → target (tablesOf k) id ≡ Target.nothing
   target-retired q = target-none (tablesOf k) id (node-has K isUntargeted id (rw (q, or-true (not ((getD (k .nodes) id blankNode) .present)))))
 
   -- whether a present one has none
-  pub target-gone : (getD (k .nodes) id blankNode) .present ≡ true → {there : Bool} → there ≡ not (isNone (found S k id)) → isNone (target (tablesOf k) id) ≡ (getD (k .nodes) id blankNode) .retired || not there
+  pub target-gone : (getD (k .nodes) id blankNode) .present ≡ true → {there : Bool} → there ≡ not (isNone (targetList (found S k id))) → isNone (targetList (target (tablesOf k) id)) ≡ (getD (k .nodes) id blankNode) .retired || not there
   target-gone p {there} h = go (cases ((getD (k .nodes) id blankNode) .retired))
     where
       again : (b : Bool) → b ≡ not (not b)
       again true = refl
       again false = refl
 
-      go : ((getD (k .nodes) id blankNode) .retired ≡ true) ⊎ ((getD (k .nodes) id blankNode) .retired ≡ false) → isNone (target (tablesOf k) id) ≡ (getD (k .nodes) id blankNode) .retired || not there
+      go : ((getD (k .nodes) id blankNode) .retired ≡ true) ⊎ ((getD (k .nodes) id blankNode) .retired ≡ false) → isNone (targetList (target (tablesOf k) id)) ≡ (getD (k .nodes) id blankNode) .retired || not there
       go (inl q) = rw (target-retired q, q)
-      go (inr q) = ap isNone (target-found (rw (p, q))) ∙ rw (q, h) (again (isNone (found S k id)))
+      go (inr q) = ap (λ (t : Target). isNone (targetList t)) (target-found (rw (p, q))) ∙ rw (q, h) (again (isNone (targetList (found S k id))))
 
   -- no more bindings than declarations
-  target-within : (o : Option (List Binding)) → target (tablesOf k) id ≡ o → length (bindings o) ≤ S .declarations
+  target-within : (o : Option (List Binding)) → targetList (target (tablesOf k) id) ≡ o → length (bindings o) ≤ S .declarations
   unfolding dependencyPorts
   target-within none h = omega arith
   target-within (some bs) h =
@@ -52,11 +64,11 @@ module _ {S : Sizes} {k : Layout} (K : SoundKernel S k) (id : ℕ) where
 -- ---- of the node that a call looks up, blank where the kernel is not sound
 
 module _ (S : Sizes) (k : Layout) (id : ℕ) where
-  pub no-target : isUntargeted (asked S k blankNode (λ T. nodeAt (T .nodes) id)) ≡ true → none ≡ asked S k none (λ T. target T id)
+  pub no-target : isUntargeted (asked S k blankNode (λ T. nodeAt (T .nodes) id)) ≡ true → Target.nothing ≡ asked S k Target.nothing (λ T. target T id)
   unfolding asked
   no-target h = go (soundKernel S k) h
     where
-      go : (b : Bool) → isUntargeted (cond b (nodeAt ((tablesOf k) .nodes) id) blankNode) ≡ true → none ≡ cond b (target (tablesOf k) id) none
+      go : (b : Bool) → isUntargeted (cond b (nodeAt ((tablesOf k) .nodes) id) blankNode) ≡ true → Target.nothing ≡ cond b (target (tablesOf k) id) Target.nothing
       go true q = sym (target-none (tablesOf k) id q)
       go false q = refl
 
@@ -69,34 +81,34 @@ module _ (S : Sizes) (k : Layout) (id : ℕ) where
       go true q = refl
       go false q = sym q
 
-  pub asks-target : (K : SoundKernel S k) → isUntargeted (asked S k blankNode (λ T. nodeAt (T .nodes) id)) ≡ false → found S k id ≡ asked S k none (λ T. target T id)
+  pub asks-target : (K : SoundKernel S k) → isUntargeted (asked S k blankNode (λ T. nodeAt (T .nodes) id)) ≡ false → found S k id ≡ asked S k Target.nothing (λ T. target T id)
   asks-target K h =
       let there = sym (ap isUntargeted (ask-sound K blankNode (λ T. nodeAt (T .nodes) id) ∙ node-is K id)) ∙ h in
-      sym (ask-sound K none (λ T. target T id) ∙ target-found K id there)
+      sym (ask-sound K Target.nothing (λ T. target T id) ∙ target-found K id there)
 
 -- ---- a target in an array with its count, and a yes/no for "there is one"
 
 pub record Held (S : Sizes) (k : Layout) (id : ℕ) (there : Bool) (array : List Binding) (count : ℕ) : Type 0 where
   pub kernel : SoundKernel S k
-  pub is-there : there ≡ not (isNone (target (tablesOf k) id))
-  pub bound : Holds (S .declarations) blankBinding (bindings (target (tablesOf k) id)) array count
+  pub is-there : there ≡ not (isNone (targetList (target (tablesOf k) id)))
+  pub bound : Holds (S .declarations) blankBinding (bindings (targetList (target (tablesOf k) id))) array count
 
 module _ {S : Sizes} {k : Layout} {id : ℕ} {there : Bool} {array : List Binding} {count : ℕ} (H : Held S k id there array count) where
   abbrev bs : List Binding
-  bs = bindings (target (tablesOf k) id)
+  bs = bindings (targetList (target (tablesOf k) id))
 
-  pub target-missing : isNone (target (tablesOf k) id) ≡ not there
-  target-missing = go (isNone (target (tablesOf k) id)) there (H .is-there)
+  pub target-missing : isNone (targetList (target (tablesOf k) id)) ≡ not there
+  target-missing = go (isNone (targetList (target (tablesOf k) id))) there (H .is-there)
     where
       go : (a b : Bool) → b ≡ not a → a ≡ not b
       go true b e = rw e
       go false b e = rw e
 
   pub target-most : count ≤ S .declarations
-  target-most = rw (← (H .bound .counted)) (target-within (H .kernel) id (target (tablesOf k) id) refl)
+  target-most = rw (← (H .bound .counted)) (target-within (H .kernel) id (targetList (target (tablesOf k) id)) refl)
 
   pub target-width : length array ≡ S .declarations
-  target-width = rw (← (H .bound .entries)) (length-padded (S .declarations) blankBinding bs (target-within (H .kernel) id (target (tablesOf k) id) refl))
+  target-width = rw (← (H .bound .entries)) (length-padded (S .declarations) blankBinding bs (target-within (H .kernel) id (targetList (target (tablesOf k) id)) refl))
 
   target-taken : take count array ≡ bs
   target-taken = rw (← (H .bound .entries), ← (H .bound .counted)) (take-padded (S .declarations) blankBinding bs)

@@ -1,6 +1,6 @@
 -- What target and committed return tells their lists: nothing is cut, and two answers agree exactly if the lists are equal.
-use Rattle.model.proofs.Logic.{Bool, List, [], _<_, _↔_, _∙_, _≡_, _≤_, ap, arith, cond, ext-getD, false, getD, length, length-map, none, refl, some, sym, true, ℕ}
-use Rattle.model.specs.{Iteration.Agree, Iteration.SameBinding, Iteration.committedOf, Iteration.targetOf, Kernels.asked, Layouts.Layout, Layouts.soundKernel, Layouts.tablesOf, Lists.keep, Lists.padded, Records.bindingIn, Records.blankBinding, Records.declaredPort, Records.portOf, Resolution.committed, Resolution.dependencyPorts, Resolution.isDependencyOf, Resolution.isLiveLinkOf, Resolution.target, Sizes.Sizes, Soundness.sound, Tables.Tables, declared.Binding.Binding}
+use Rattle.model.proofs.Logic.{Bool, List, [], _↔_, _∙_, _≡_, _≤_, ap, arith, cond, ext-getD, false, getD, length, length-map, refl, some, sym, true, ℕ}
+use Rattle.model.specs.{Iteration.Agree, Iteration.SameBinding, Iteration.committedOf, Iteration.targetOf, Kernels.asked, Layouts.Layout, Layouts.soundKernel, Layouts.tablesOf, Lists.keep, Lists.padded, Records.bindingIn, Records.blankBinding, Records.declaredPort, Records.portOf, Resolution.Target, Resolution.committed, Resolution.dependencyPorts, Resolution.isDependencyOf, Resolution.isLiveLinkOf, Resolution.target, Resolution.targetList, Sizes.Sizes, declared.Binding.Binding}
 use Rattle.model.proofs.{Laws.Arrays.getD-padded, Laws.Facts.facts, Laws.Lists.length-keep, Laws.Lists.never, Laws.Records.binding-is, Laws.Resolution.bound-ports, Laws.Resolution.targeted, Theorems.Layouts.tables-sound}
 
 same-binding : (b c : Binding) → SameBinding b c → b ≡ c
@@ -27,11 +27,11 @@ module _ (S : Sizes) (k : Layout) (id : ℕ) where
       go true h = omega (arith, length-map (keep (isLiveLinkOf id) ((tablesOf k) .links)) bindingIn, length-keep (isLiveLinkOf id) ((tablesOf k) .links), facts S (tablesOf k) (tables-sound S k h) .sizes .links)
       go false h = omega arith
 
-  pub target-within : (bs : List Binding) → targetOf S k id ≡ some bs → length bs ≤ S .declarations
+  pub target-within : (bs : List Binding) → targetList (targetOf S k id) ≡ some bs → length bs ≤ S .declarations
   unfolding asked dependencyPorts
   target-within bs = go (soundKernel S k) refl
     where
-      go : (b : Bool) → soundKernel S k ≡ b → cond b (target (tablesOf k) id) none ≡ some bs → length bs ≤ S .declarations
+      go : (b : Bool) → soundKernel S k ≡ b → targetList (cond b (target (tablesOf k) id) Target.nothing) ≡ some bs → length bs ≤ S .declarations
       go true h e =
           let T = tablesOf k in
           let n : length bs ≡ length (dependencyPorts (T .declarations) id) = sym (length-map bs portOf) ∙ ap length (bound-ports _ _ bs (targeted T id bs e .is-bound)) in

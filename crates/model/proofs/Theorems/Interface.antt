@@ -1,12 +1,12 @@
 -- The interface commands keep soundness.
 use Rattle.model.proofs.Logic.{Bool, List, List·Memᴰ, List·Memᴰ·append-cases, List·Memᴰ·eq-of-singleton, Memᴰ·append-left, [], _&&_, _++_, _+_, _<_, _∙_, _∷_, _≡_, _⊎_, and-false, ap, arith, cond, eqb, false, inl, inr, leb, leb-false, length, length-append, length-map, ltb-false, map, ne-eqb, not, refl, sym, true, ℕ}
-use Rattle.model.specs.{Interface.configureTests, Interface.declareProvisionTests, Interface.dependenciesConfigured, Interface.listed, Interface.own, Interface.provisionDeclared, Interface.provisionReleased, Interface.releaseProvisionTests, Interface.reliesOn, Interface.remaining, Interface.remains, Interface.taken, Interface.takenBy, Lists.keep, Records.consumerIn, Records.declaredPort, Records.dependency, Records.isInactive, Records.ownerIn, Records.portIn, Records.providerIn, Records.provision, Records.samePort, Resolution.isDependencyOf, Sizes.Sizes, Soundness.isDeclaration, Tables.Tables, Tables.nodeAt, Tables.notInactive, Tables.present, Tables.withDeclarations, declared.Port.Port, declared.PortList.PortList, declared.records.Declaration.Declaration, declared.records.Link.Link}
+use Rattle.model.specs.{Interface.configureTests, Interface.declareProvisionTests, Interface.dependenciesConfigured, Interface.listed, Interface.own, Interface.provisionDeclared, Interface.provisionReleased, Interface.releaseProvisionTests, Interface.reliesOn, Interface.remaining, Interface.remains, Interface.taken, Records.consumerIn, Records.declaredPort, Records.dependency, Records.isInactive, Records.ownerIn, Records.portIn, Records.providerIn, Records.provision, Records.samePort, Resolution.isDependencyOf, Resolution.offers, Sizes.Sizes, Soundness.isDeclaration, Tables.Tables, Tables.nodeAt, Tables.notInactive, Tables.present, Tables.withDeclarations, declared.Port.Port, declared.PortList.PortList, declared.records.Declaration.Declaration, declared.records.Link.Link}
 use Rattle.model.proofs.{Laws.Booleans.and-i, Laws.Booleans.and-l, Laws.Booleans.clash, Laws.Booleans.f-not, Laws.Booleans.not-f, Laws.Facts.Linked, Laws.Facts.Sound, Laws.Facts.port-same, Laws.Lists.in-keep, Laws.Lists.in-map, Laws.Lists.keep-in, Laws.Lists.none-in, Laws.Nodes.present-lt, Laws.Refusals.Passed, Laws.Update.LiveLinks, Laws.Update.safe-declarations, Laws.Update.sub-declarations}
 
 -- no present owner provides a port that is not taken
 pub not-taken : (T : Tables) (p : Port) → taken T p ≡ false → (d : Declaration) → List·Memᴰ d (T .declarations) → d .provides ≡ true → present (T .nodes) (ownerIn d) ≡ true → declaredPort d ≡ p → ⊥
-unfolding taken takenBy
-not-taken T p h d m a b e = clash {A = ⊥} _ (and-i (d .provides && samePort (declaredPort d) p) _ (and-i (d .provides) _ a (rw e (port-same p))) b) (none-in (takenBy (present (T .nodes)) p) m h)
+unfolding taken offers
+not-taken T p h d m a b e = clash {A = ⊥} _ (and-i (d .provides && samePort (declaredPort d) p) _ (and-i (d .provides) _ a (rw e (port-same p))) b) (none-in (offers (present (T .nodes)) p) m h)
 
 -- another owner's declaration remains, and every provision
 pub other-remains : (id : ℕ) (d : Declaration) → (ownerIn d ≡ id → ⊥) → remains id d ≡ true

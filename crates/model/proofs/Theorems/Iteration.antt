@@ -1,7 +1,7 @@
 -- The iteration rule on tables.
 use Rattle.model.proofs.Logic.{Bool, List, List·Memᴰ, List·Memᴰ·head, List·Memᴰ·tail, Option, [], _∙_, _∷_, _≡_, ap, arith, cons≢nil, false, head-eq-of-cons-eq, map, nil≢cons, none, not, refl, some, sym, tail-eq-of-cons-eq, true, ℕ}
 use contract.Running.{tables}
-use Rattle.model.specs.{Commands.Command, Commands.Step, Commands.settle, Commands.step, Iteration.Rule, Iteration.loads, Iteration.runs, Lifecycle.checkIteration, Lifecycle.iterationTests, Lifecycle.leaveIfChangedTests, Lifecycle.left, Lifecycle.phaseAt, Lists.isNone, Lists.keep, Observers.phase, Records.bindingIn, Records.consumerIn, Records.isLoading, Records.isRunning, Records.portIn, Records.portOf, Records.providerIn, Records.provision, Records.withPhase, Refusals.Reply, Refusals.first, Refusals.orElse, Resolution.committed, Resolution.dependencyPorts, Resolution.isLiveLinkOf, Resolution.target, Sizes.Sizes, Soundness.sound, Tables.Tables, Tables.nodeAt, Tables.present, declared.Binding.Binding, declared.Error.Error, declared.Phase.Phase, declared.records.Link.Link}
+use Rattle.model.specs.{Commands.Command, Commands.Step, Commands.settle, Commands.step, Iteration.Rule, Iteration.loads, Iteration.runs, Lifecycle.checkIteration, Lifecycle.iterationTests, Lifecycle.leaveIfChangedTests, Lifecycle.left, Lifecycle.phaseAt, Lists.isNone, Lists.keep, Observers.phase, Records.bindingIn, Records.consumerIn, Records.isLoading, Records.isRunning, Records.portIn, Records.portOf, Records.providerIn, Records.provision, Records.withPhase, Refusals.Reply, Refusals.first, Refusals.orElse, Resolution.committed, Resolution.dependencyPorts, Resolution.isLiveLinkOf, Resolution.target, Resolution.targetList, Sizes.Sizes, Soundness.sound, Tables.Tables, Tables.nodeAt, Tables.present, declared.Binding.Binding, declared.Error.Error, declared.Phase.Phase, declared.records.Link.Link}
 use Rattle.model.proofs.{Laws.Booleans.clash, Laws.Committed.live-link-of, Laws.Facts.LiveOk, Laws.Facts.Safe, Laws.Facts.facts, Laws.Lists.in-keep, Laws.Lists.in-map, Laws.Lists.never, Laws.Nodes.at-same, Laws.Nodes.present-lt, Laws.Phases.loading-running, Laws.Phases.running-installed, Laws.Refusals.skip, Laws.Resolution.Resolved, Laws.Resolution.Targeted, Laws.Resolution.bound-ports, Laws.Resolution.target-resolved, Laws.Resolution.targeted, Theorems.IterationInvariant.IterationInvariant}
 
 pub same-bindings : (bs cs : List Binding) → map portOf bs ≡ map portOf cs → ((b c : Binding) → List·Memᴰ b bs → List·Memᴰ c cs → portOf b ≡ portOf c → b .provider ≡ c .provider) → bs ≡ cs
@@ -22,7 +22,7 @@ committed-in ls id b m =
     let (i, h) = in-keep (isLiveLinkOf id) ls n in
     (l, i, (live-link-of id l h) .0, e)
 
-pub target-committed : (T : Tables) (id : ℕ) (bs : List Binding) → Safe T → map portOf (committed (T .links) id) ≡ dependencyPorts (T .declarations) id → target T id ≡ some bs → bs ≡ committed (T .links) id
+pub target-committed : (T : Tables) (id : ℕ) (bs : List Binding) → Safe T → map portOf (committed (T .links) id) ≡ dependencyPorts (T .declarations) id → targetList (target T id) ≡ some bs → bs ≡ committed (T .links) id
 target-committed T id bs k e h =
     let t : Targeted T id bs = targeted T id bs h in
     same-bindings bs (committed (T .links) id) (bound-ports _ _ bs (t .is-bound) ∙ sym e) (λ b c m n p.
@@ -38,28 +38,28 @@ refusal-not-done x e = let z : _≡_ {A = ℕ} 0 1 = cc in absurd (omega arith)
 -- ---- the replies
 
 module _ (S : Sizes) (T : Tables) (id : ℕ) (t : present (T .nodes) id ≡ true) where
-  check-first : (o : Option (List Binding)) → target T id ≡ o → isLoading (phaseAt T id) ≡ true → first (iterationTests T id) ≡ first ((isNone o, Error.Changed) ∷ [])
+  check-first : (o : Option (List Binding)) → targetList (target T id) ≡ o → isLoading (phaseAt T id) ≡ true → first (iterationTests T id) ≡ first ((isNone o, Error.Changed) ∷ [])
   check-first o e l = skip _ _ _ (rw (t, present)) ∙ skip _ _ _ (rw l) ∙ rw e
 
-  check-done : (bs : List Binding) → target T id ≡ some bs → isLoading (phaseAt T id) ≡ true → checkIteration T id ≡ Reply.done
+  check-done : (bs : List Binding) → targetList (target T id) ≡ some bs → isLoading (phaseAt T id) ≡ true → checkIteration T id ≡ Reply.done
   unfolding checkIteration first
   check-done bs e l = ap (λ (o : Option Error). orElse o Reply.done) (check-first (some bs) e l)
 
-  check-changed : target T id ≡ none → isLoading (phaseAt T id) ≡ true → checkIteration T id ≡ Reply.refused Error.Changed
+  check-changed : targetList (target T id) ≡ none → isLoading (phaseAt T id) ≡ true → checkIteration T id ≡ Reply.refused Error.Changed
   unfolding checkIteration first
   check-changed e l = ap (λ (o : Option Error). orElse o Reply.done) (check-first none e l)
 
   away : Step
   away = record { tables = left T id; reply = Reply.done }
 
-  leave-first : (o : Option (List Binding)) → target T id ≡ o → isRunning (phaseAt T id) ≡ true → first (leaveIfChangedTests T id) ≡ first ((not (isNone o), Error.Changed) ∷ [])
+  leave-first : (o : Option (List Binding)) → targetList (target T id) ≡ o → isRunning (phaseAt T id) ≡ true → first (leaveIfChangedTests T id) ≡ first ((not (isNone o), Error.Changed) ∷ [])
   leave-first o e l = skip _ _ _ (rw (t, present)) ∙ skip _ _ _ (rw l) ∙ rw e
 
-  leave-done : target T id ≡ none → isRunning (phaseAt T id) ≡ true → step S T (Command.leaveIfChanged id) ≡ away
+  leave-done : targetList (target T id) ≡ none → isRunning (phaseAt T id) ≡ true → step S T (Command.leaveIfChanged id) ≡ away
   unfolding step settle first away
   leave-done e l = ap (λ (o : Option Error). settle o T away) (leave-first none e l)
 
-  leave-unchanged : (bs : List Binding) → target T id ≡ some bs → isRunning (phaseAt T id) ≡ true → step S T (Command.leaveIfChanged id) ≡ record { tables = T; reply = Reply.refused Error.Changed }
+  leave-unchanged : (bs : List Binding) → targetList (target T id) ≡ some bs → isRunning (phaseAt T id) ≡ true → step S T (Command.leaveIfChanged id) ≡ record { tables = T; reply = Reply.refused Error.Changed }
   unfolding step settle first away
   leave-unchanged bs e l = ap (λ (o : Option Error). settle o T away) (leave-first (some bs) e l)
 
@@ -70,7 +70,7 @@ module _ (S : Sizes) (T : Tables) (id : ℕ) (t : present (T .nodes) id ≡ true
 -- ---- the rule on sound tables that keep what the history noted
 
 abbrev pub RuleOn : Sizes → Tables → ℕ → Option (List Binding) → Type 0
-RuleOn S T id a = let o = step S T (Command.leaveIfChanged id) in Rule (phase T id) a (committed (T .links) id) (target T id) (checkIteration T id) (o .reply) (phase (o .tables) id)
+RuleOn S T id a = let o = step S T (Command.leaveIfChanged id) in Rule (phase T id) a (committed (T .links) id) (targetList (target T id)) (checkIteration T id) (o .reply) (phase (o .tables) id)
 
 -- a phase as the observer gives it
 observed :
@@ -92,16 +92,16 @@ module _ (S : Sizes) (T : Tables) (h : sound S T ≡ true) (id : ℕ) (a : Optio
   isloading : loads (phase T id) ≡ true → (present (T .nodes) id ≡ true) × (isLoading (phaseAt T id) ≡ true)
   isloading r = observed T id isLoading loads refl (λ x. refl) r
 
-  same : (bs : List Binding) → target T id ≡ some bs → isRunning (phaseAt T id) ≡ true → target T id ≡ a
+  same : (bs : List Binding) → targetList (target T id) ≡ some bs → isRunning (phaseAt T id) ≡ true → targetList (target T id) ≡ a
   same bs e r = e ∙ ap some (target-committed T id bs (facts S T h .safe) (q .ports (running-installed (phaseAt T id) r)) e) ∙ sym (q .as-begun r)
 
   loaded : isLoading (phaseAt T id) ≡ true → isRunning (phaseAt T id) ≡ true
   loaded l = loading-running (phaseAt T id) l
 
   pub rule : RuleOn S T id a
-  rule = go (target T id) refl
+  rule = go (targetList (target T id)) refl
     where
-      go : (o : Option (List Binding)) → target T id ≡ o → RuleOn S T id a
+      go : (o : Option (List Binding)) → targetList (target T id) ≡ o → RuleOn S T id a
       go none e = record {
         committed-is = λ r. q .as-begun ((running r) .1);
         check-accepts = λ m. let (t, l) = isloading m in (λ x. refusal-not-done Error.Changed (sym (check-changed S T id t e l) ∙ x), λ x. never _ (sym e ∙ x ∙ q .as-begun (loaded l)));

@@ -1,6 +1,6 @@
 -- What demand 3 adds to soundness, and that every command keeps it.
 use Rattle.model.proofs.Logic.{Bool, List, List·Memᴰ·eq-of-singleton, Option, [], _&&_, _++_, _<_, _∙_, _∷_, _≡_, _⊎_, and-false, ap, append-nil, arith, cond, eq-eqb, eqb, false, inl, inr, length, map, ne-eqb, none, not, refl, some, subst, sym, true, ℕ, ℕ-discrete}
-use Rattle.model.specs.{Commands.Command, Commands.report, Commands.result, Commands.step, Commands.tests, Compaction.declarationsCompacted, Insertion.inserted, Interface.dependenciesConfigured, Interface.listed, Interface.own, Interface.provisionDeclared, Interface.provisionReleased, Iteration.begins, Lifecycle.beginTests, Lifecycle.begun, Lifecycle.begunNode, Lifecycle.begunWith, Lifecycle.cleanupFinished, Lifecycle.phaseAt, Records.declaredPort, Records.dependency, Records.isInactive, Records.isRunning, Records.liveLink, Records.newNode, Records.ownerIn, Records.portOf, Records.provision, Records.restoredNode, Records.samePort, Refusals.accepted, Resolution.committed, Resolution.dependencyPorts, Resolution.target, Sizes.Sizes, Soundness.isDeclaration, Soundness.sound, Tables.Tables, Tables.empty, Tables.nodeAt, Tables.notInactive, Tables.present, Tables.withDeclarations, Tables.withNode, declared.Binding.Binding, declared.Parent.Parent, declared.Port.Port, declared.PortList.PortList, declared.records.Declaration.Declaration, declared.records.Node.Node}
+use Rattle.model.specs.{Commands.Command, Commands.report, Commands.result, Commands.step, Commands.tests, Compaction.declarationsCompacted, Insertion.inserted, Interface.dependenciesConfigured, Interface.listed, Interface.own, Interface.provisionDeclared, Interface.provisionReleased, Iteration.begins, Lifecycle.beginTests, Lifecycle.begun, Lifecycle.begunNode, Lifecycle.begunWith, Lifecycle.cleanupFinished, Lifecycle.phaseAt, Records.declaredPort, Records.dependency, Records.isInactive, Records.isRunning, Records.liveLink, Records.newNode, Records.ownerIn, Records.portOf, Records.provision, Records.restoredNode, Records.samePort, Refusals.accepted, Resolution.committed, Resolution.dependencyPorts, Resolution.target, Resolution.targetList, Sizes.Sizes, Soundness.isDeclaration, Soundness.sound, Tables.Tables, Tables.empty, Tables.nodeAt, Tables.notInactive, Tables.present, Tables.withDeclarations, Tables.withNode, declared.Binding.Binding, declared.Parent.Parent, declared.Port.Port, declared.PortList.PortList, declared.records.Declaration.Declaration, declared.records.Node.Node}
 use Rattle.model.proofs.{Laws.Booleans.and-l, Laws.Booleans.cases, Laws.Booleans.clash, Laws.Booleans.not-f, Laws.Booleans.not-t, Laws.Committed.committed-append, Laws.Committed.committed-compact, Laws.Committed.committed-dead, Laws.Committed.committed-idle, Laws.Committed.dependencyPorts-keep, Laws.Committed.dependencyPorts-more, Laws.Committed.fresh-mine, Laws.Committed.fresh-other, Laws.Committed.new-owner, Laws.Facts.Safe, Laws.Facts.Sound, Laws.Facts.facts, Laws.Lists.in-map, Laws.Lists.is-some, Laws.Nodes.at-set, Laws.Nodes.at-set-other, Laws.Nodes.at-snoc, Laws.Nodes.present-lt, Laws.Phases.loading-running, Laws.Phases.running-installed, Laws.Refusals.Passed, Laws.Refusals.step-cases, Laws.Resolution.Targeted, Laws.Resolution.bound-ports, Laws.Resolution.targeted, Theorems.Commands.runFrom, Theorems.Commands.step-sound, Theorems.Interface.other-remains}
 
 -- of a running component, what was noted at its last accepted begin is its committed; of an installed one, the ports of its live links are its dependency ports, both in order
@@ -98,11 +98,11 @@ module _ (S : Sizes) (T : Tables) (k : Sound S T) (id : ℕ) (a : Option (List B
       mine : committed (T .links ++ map (liveLink id) bs) id ≡ bs
       mine = rw (committed-append (T .links) (map (liveLink id) bs) id, committed-idle T id (k .safe) idle, fresh-mine bs id)
 
-  begun-kept : (j : ℕ) → Passed (beginTests S T j) → IterationInvariant (begun T j) id (cond (eqb j id && true) (target T id) a)
-  begun-kept j p = let (bs, e) = is-some (target T j) (p .1 .1 .1 .1 .0) in rw e (go bs e (not-f _ (p .0)) (not-f _ (p .1 .0)) (ℕ-discrete j id))
+  begun-kept : (j : ℕ) → Passed (beginTests S T j) → IterationInvariant (begun T j) id (cond (eqb j id && true) (targetList (target T id)) a)
+  begun-kept j p = let (bs, e) = is-some (targetList (target T j)) (p .1 .1 .1 .1 .0) in rw e (go bs e (not-f _ (p .0)) (not-f _ (p .1 .0)) (ℕ-discrete j id))
     where
-      go : (bs : List Binding) → target T j ≡ some bs → present (T .nodes) j ≡ true → isInactive (phaseAt T j) ≡ true
-          → Dec (j ≡ id) → IterationInvariant (begunWith T j bs) id (cond (eqb j id && true) (target T id) a)
+      go : (bs : List Binding) → targetList (target T j) ≡ some bs → present (T .nodes) j ≡ true → isInactive (phaseAt T j) ≡ true
+          → Dec (j ≡ id) → IterationInvariant (begunWith T j bs) id (cond (eqb j id && true) (targetList (target T id)) a)
       go bs e t i (no d) = rw (ne-eqb j id d) (begun-other j bs t (λ x. d (sym x)))
       go bs e t i (yes d) = rw (eq-eqb j id d, d, rw d at e) (begun-same bs (targeted T id bs (rw d at e)) (rw d at i))
 
@@ -111,7 +111,7 @@ module _ (S : Sizes) (T : Tables) (k : Sound S T) (id : ℕ) (a : Option (List B
 pub result-kept :
     (S : Sizes) (T : Tables) (k : Sound S T) (id : ℕ) (a : Option (List Binding)) (q : IterationInvariant T id a) (c : Command)
     → Passed (tests S T c)
-    → IterationInvariant (result T c) id (cond (begins id c && accepted (report T c)) (target T id) a)
+    → IterationInvariant (result T c) id (cond (begins id c && accepted (report T c)) (targetList (target T id)) a)
 unfolding begins
 result-kept S T k id a q (Command.insert o ds ps) p = inserted-kept S T k id a q o ds ps
 result-kept S T k id a q (Command.declareProvision j pt) p = provisionDeclared-kept S T k id a q j pt
@@ -132,7 +132,7 @@ result-kept S T k id a q Command.compactDeclarations p = declarationsCompacted-k
 
 -- after one more command on T: what target gives on T at an accepted begin of the component, else what was noted before
 unfoldable pub noted : Sizes → Tables → ℕ → Command → Option (List Binding) → Option (List Binding)
-noted S T id c a = cond (begins id c && accepted ((step S T c) .reply)) (target T id) a
+noted S T id c a = cond (begins id c && accepted ((step S T c) .reply)) (targetList (target T id)) a
 
 unfoldable pub notedFrom : Sizes → Tables → ℕ → List Command → Option (List Binding) → Option (List Binding)
 notedFrom S T id [] a = a
@@ -142,7 +142,7 @@ notedFrom S T id (c ∷ cs) a = notedFrom S ((step S T c) .tables) id cs (noted 
 pub step-kept : (S : Sizes) (T : Tables) (k : Sound S T) (id : ℕ) (a : Option (List Binding)) (c : Command) → IterationInvariant T id a → IterationInvariant ((step S T c) .tables) id (noted S T id c a)
 unfolding noted
 step-kept S T k id a c q =
-    step-cases (λ o. IterationInvariant (o .tables) id (cond (begins id c && accepted (o .reply)) (target T id) a)) S T c
+    step-cases (λ o. IterationInvariant (o .tables) id (cond (begins id c && accepted (o .reply)) (targetList (target T id)) a)) S T c
     (λ e h. rw (and-false (begins id c)) q) (λ p. result-kept S T k id a q c p)
 
 -- from any tables that have it, so that a run may start elsewhere than at the empty kernel

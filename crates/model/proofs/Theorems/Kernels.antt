@@ -1,6 +1,6 @@
 -- What a command hands back, refused or accepted; reached kernels are sound, so that no command on one answers 10; and the iteration rule holds of them.
 use Rattle.model.proofs.Logic.{Bool, List, Option, [], _&&_, _∙_, _∷_, _≡_, _≤_, _⊎_, ap, arith, cond, eqb, false, inl, inr, none, not, refl, some, subst, sym, true, ℕ}
-use Rattle.model.specs.{Commands.Command, Commands.report, Commands.result, Commands.settle, Commands.step, Commands.tests, Iteration.IterationRule, Iteration.RuleAt, Iteration.begins, Iteration.committedOf, Iteration.iterationOf, Iteration.lastFrom, Iteration.phaseOf, Iteration.targetOf, Kernels.Commanded, Kernels.EveryCallAnswered, Kernels.asked, Kernels.commanded, Kernels.kernelFrom, Kernels.reached, Kernels.replied, Layouts.Layout, Layouts.layOut, Layouts.soundKernel, Layouts.tablesOf, Lifecycle.checkIteration, Lists.all, Observers.phase, Refusals.Reply, Refusals.accepted, Refusals.first, Refusals.number, Refusals.replyNumber, Resolution.committed, Resolution.target, Sizes.Sizes, Soundness.sound, Tables.Tables, Tables.empty, declared.Binding.Binding, declared.Error.Error}
+use Rattle.model.specs.{Commands.Command, Commands.report, Commands.result, Commands.settle, Commands.step, Commands.tests, Iteration.IterationRule, Iteration.RuleAt, Iteration.begins, Iteration.committedOf, Iteration.iterationOf, Iteration.lastFrom, Iteration.phaseOf, Iteration.targetOf, Kernels.Commanded, Kernels.EveryCallAnswered, Kernels.asked, Kernels.commanded, Kernels.kernelFrom, Kernels.reached, Kernels.replied, Layouts.Layout, Layouts.layOut, Layouts.soundKernel, Layouts.tablesOf, Lifecycle.checkIteration, Lists.all, Observers.phase, Refusals.Reply, Refusals.accepted, Refusals.first, Refusals.number, Refusals.replyNumber, Resolution.Target, Resolution.committed, Resolution.target, Resolution.targetList, Sizes.Sizes, Soundness.sound, Tables.Tables, Tables.empty, declared.Binding.Binding, declared.Error.Error}
 use Rattle.model.proofs.{Laws.Booleans.clash, Laws.Refusals.Passed, Laws.Refusals.first-among, Laws.Refusals.of-passed, Laws.Refusals.report-accepts, Laws.Refusals.step-cases, Theorems.Commands.empty-sound, Theorems.Commands.run, Theorems.Commands.run-sound, Theorems.Commands.runFrom, Theorems.Commands.step-sound, Theorems.Iteration.RuleOn, Theorems.Iteration.rule, Theorems.IterationInvariant.empty-kept, Theorems.IterationInvariant.from-kept, Theorems.IterationInvariant.noted, Theorems.IterationInvariant.notedFrom, Theorems.Layouts.layout-sound, Theorems.Layouts.read-back}
 
 -- what a sound kernel answers, and an unsound one
@@ -114,9 +114,9 @@ kernel-last : (S : Sizes) (T : Tables) (id : ℕ) (cs : List Command) (a : Optio
 unfolding lastFrom notedFrom noted
 kernel-last S T id [] a h = refl
 kernel-last S T id (c ∷ cs) a h =
-    ap (λ (o : Commanded). lastFrom S (o .kernel) id cs (cond (begins id c && accepted (o .reply)) (targetOf S (layOut S T) id) a)) (commanded-of S T h c)
-    ∙ ap (λ (t : Option (List Binding)). lastFrom S (layOut S ((step S T c) .tables)) id cs (cond (begins id c && accepted ((step S T c) .reply)) t a)) (asked-of S T h none (λ U. target U id))
-    ∙ kernel-last S ((step S T c) .tables) id cs (cond (begins id c && accepted ((step S T c) .reply)) (target T id) a) (step-sound S T c h)
+    ap (λ (o : Commanded). lastFrom S (o .kernel) id cs (cond (begins id c && accepted (o .reply)) (targetList (targetOf S (layOut S T) id)) a)) (commanded-of S T h c)
+    ∙ ap (λ (t : Target). lastFrom S (layOut S ((step S T c) .tables)) id cs (cond (begins id c && accepted ((step S T c) .reply)) (targetList t) a)) (asked-of S T h Target.nothing (λ U. target U id))
+    ∙ kernel-last S ((step S T c) .tables) id cs (cond (begins id c && accepted ((step S T c) .reply)) (targetList (target T id)) a) (step-sound S T c h)
 
 -- the rule of sound tables is that of their kernel
 kernel-rule : (S : Sizes) (T : Tables) (id : ℕ) (a : Option (List Binding)) → sound S T ≡ true → RuleOn S T id a → RuleAt S (layOut S T) id a
@@ -124,7 +124,7 @@ kernel-rule S T id a h r =
     let U : Tables = (step S T (Command.leaveIfChanged id)) .tables in
     let now : phaseOf S (layOut S T) id ≡ phase T id = asked-of S T h none (λ T. phase T id) in
     let held : committedOf S (layOut S T) id ≡ committed (T .links) id = asked-of S T h [] (λ T. committed (T .links) id) in
-    let wanted : targetOf S (layOut S T) id ≡ target T id = asked-of S T h none (λ T. target T id) in
+    let wanted : targetOf S (layOut S T) id ≡ target T id = asked-of S T h Target.nothing (λ T. target T id) in
     let check : iterationOf S (layOut S T) id ≡ checkIteration T id = asked-of S T h (Reply.refused Error.Damaged) (λ T. checkIteration T id) in
     let after : phaseOf S (layOut S U) id ≡ phase U id = asked-of S U (step-sound S T (Command.leaveIfChanged id) h) none (λ T. phase T id) in
     rw (now, held, wanted, check, commanded-of S T h (Command.leaveIfChanged id), after) r

@@ -1,6 +1,6 @@
 -- On a reached kernel a begin refused for link space is accepted after compact_bindings.
 use Rattle.model.proofs.Logic.{Bool, List, List·Memᴰ, List·Memᴰ·head, List·Memᴰ·tail, Option, [], _&&_, _++_, _+_, _<_, _∙_, _∷_, _≡_, _≤_, _⊎_, ap, arith, cond, eq-eqb, eqb, false, inl, inr, le-ltb, length, length-map, map, ne-eqb, none, not, refl, some, subst, suc, sym, true, ℕ, ℕ-discrete}
-use Rattle.model.specs.{Commands.Command, Commands.Step, Commands.report, Commands.result, Commands.settle, Commands.step, Commands.tests, Compaction.bindingsCompacted, Kernels.Commanded, Kernels.reached, Layouts.layOut, Lifecycle.beginNodeTests, Lifecycle.beginTests, Lifecycle.begun, Lifecycle.bindings, Lists.isNone, Lists.keep, Observers.episodeGeneration, Records.bindingIn, Records.consumerIn, Records.declaredPort, Records.isLive, Records.ownerIn, Records.portOf, Refusals.Reply, Refusals.Tests, Refusals.first, Refusals.number, Resolution.committed, Resolution.dependencyPorts, Resolution.isDependencyOf, Resolution.isLiveLinkOf, Resolution.target, Sizes.Sizes, Sizes.lastGeneration, Soundness.sound, Space.SpaceAfterCompaction, Tables.Tables, Tables.empty, Tables.nodeAt, Tables.notInactive, Tables.present, declared.Binding.Binding, declared.Error.Error, declared.records.Declaration.Declaration, declared.records.Link.Link}
+use Rattle.model.specs.{Commands.Command, Commands.Step, Commands.report, Commands.result, Commands.settle, Commands.step, Commands.tests, Compaction.bindingsCompacted, Kernels.Commanded, Kernels.reached, Layouts.layOut, Lifecycle.beginNodeTests, Lifecycle.beginTests, Lifecycle.begun, Lifecycle.bindings, Lists.isNone, Lists.keep, Observers.episodeGeneration, Records.bindingIn, Records.consumerIn, Records.declaredPort, Records.isLive, Records.ownerIn, Records.portOf, Refusals.Reply, Refusals.Tests, Refusals.first, Refusals.number, Resolution.committed, Resolution.dependencyPorts, Resolution.isDependencyOf, Resolution.isLiveLinkOf, Resolution.target, Resolution.targetList, Sizes.Sizes, Sizes.lastGeneration, Soundness.sound, Space.SpaceAfterCompaction, Tables.Tables, Tables.empty, Tables.nodeAt, Tables.notInactive, Tables.present, declared.Binding.Binding, declared.Error.Error, declared.records.Declaration.Declaration, declared.records.Link.Link}
 use Rattle.model.proofs.{Laws.Booleans.cases, Laws.Booleans.not-f, Laws.Committed.committed-idle, Laws.Facts.Safe, Laws.Facts.Sound, Laws.Facts.facts, Laws.Lists.is-some, Laws.Nodes.present-lt, Laws.Refusals.Passed, Laws.Refusals.of-passed, Laws.Refusals.skip, Laws.Resolution.bound-ports, Laws.Resolution.targeted, Laws.Sums.plus, Laws.Sums.sum-at, Laws.Sums.sum-le, Laws.Sums.sum-mono, Laws.Sums.sum-same, Laws.Sums.sum-zero, Laws.Sums.sumTo, Theorems.Commands.empty-sound, Theorems.Commands.run, Theorems.Commands.run-sound, Theorems.Commands.step-sound, Theorems.IterationInvariant.empty-kept, Theorems.IterationInvariant.from-kept, Theorems.Kernels.asked-of, Theorems.Kernels.commanded-of, Theorems.Kernels.reached-is}
 
 -- ---- the live links, and the dependencies, by component
@@ -106,7 +106,7 @@ NoSpace S T id = ((step S T (Command.begin id)) .reply ≡ Reply.refused Error.C
 
 -- every test of begin's row but the last
 abbrev BeforeSpace : Tables → ℕ → Type 0
-BeforeSpace T id = Passed (beginNodeTests (nodeAt (T .nodes) id) ++ ((isNone (target T id), Error.MissingDependency) ∷ []))
+BeforeSpace T id = Passed (beginNodeTests (nodeAt (T .nodes) id) ++ ((isNone (targetList (target T id)), Error.MissingDependency) ∷ []))
 
 before-space : (S : Sizes) (T : Tables) (id : ℕ) → NoSpace S T id → BeforeSpace T id
 before-space S T id r =
@@ -123,7 +123,7 @@ before-space S T id r =
 room-begin : (S : Sizes) (T : Tables) (id : ℕ) → S .declarations ≤ S .links → Sound S T → PortsKept T → BeforeSpace T id → Passed (beginTests S (bindingsCompacted T) id)
 unfolding target
 room-begin S T id w k f p =
-    let (bs, e) = is-some (target T id) (p .1 .1 .1 .1 .0) in
+    let (bs, e) = is-some (targetList (target T id)) (p .1 .1 .1 .1 .0) in
     let n : length bs ≡ length (dependencyPorts (T .declarations) id) = sym (length-map bs portOf) ∙ ap length (bound-ports _ _ bs (targeted T id bs e .is-bound)) in
     let g : length (keep isLive (T .links)) + length bs ≤ S .links = omega (arith, n, k .sizes .declarations, room T id (k .safe) f (not-f _ (p .0)) (p .1 .0)) in
     (p .0, (p .1 .0, (p .1 .1 .0, (p .1 .1 .1 .0, (p .1 .1 .1 .1 .0, (le-ltb _ _ (subst (λ (o : Option (List Binding)). length (keep isLive (T .links)) + length (bindings o) ≤ S .links) (sym e) g), tt))))))

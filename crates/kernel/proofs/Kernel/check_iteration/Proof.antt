@@ -1,7 +1,7 @@
 -- `kernel::Kernel::check_iteration` meets its contract.
 use Rattle.model.proofs.Logic.{[], _||_, _∙_, _≡_, getD, needs, none, not, not-true, some, sym, ℕ}
 use Rattle.kernel.specs.{Fields.ask, Fields.layoutOf, declared.Kernel.Kernel}
-use Rattle.model.specs.{Answers.answer, Layouts.tablesOf, Lifecycle.checkIteration, Lifecycle.iterationTests, Lists.isNone, Records.blankNode, Refusals.Reply, Refusals.Tests, Refusals.first, Resolution.target, Tables.Tables, declared.Answer.Answer, declared.Error.Error, declared.rows.Row.Row}
+use Rattle.model.specs.{Answers.answer, Layouts.tablesOf, Lifecycle.checkIteration, Lifecycle.iterationTests, Lists.isNone, Records.blankNode, Refusals.Reply, Refusals.Tests, Refusals.first, Resolution.target, Resolution.targetList, Tables.Tables, declared.Answer.Answer, declared.Error.Error, declared.rows.Row.Row}
 use Rattle.kernel.proofs.{Kernel.check_iteration.Statement.statement, Laws.Rows.iteration-row, Laws.Lengths.sized, Laws.Targets.there-is}
 use Rattle.layouts.proofs.{Laws.Nodes.Tested, Laws.Nodes.array-present, Laws.Nodes.node-refuses, Laws.Nodes.past-unknown, Laws.Nodes.rest, Laws.Nodes.tested-array, Laws.Rows.row-damaged, Laws.Rows.row-passes, Laws.Rows.row-refuses, Laws.Sound.SoundKernel, Laws.Sound.tested-sound, Laws.Targets.found, Laws.Targets.target-gone}
 use Rattle.model.proofs.{Laws.Refusals.of-passed, Laws.Refusals.skip, Laws.Refusals.stop}
@@ -47,7 +47,7 @@ module _ (f : tie.After-target-table) where
   P : Tested sizes (layoutOf (k at)) Row.Loading (id at)
   P = tested-array (K at) (id at) Row.Loading (told .before .before .check-loading .ensures) (told .enum-told .given .1)
 
-  gone : isNone (target (T at) (id at)) ≡ (getD (k at .nodes) (id at) blankNode) .retired || not (f .target-table .result .there)
+  gone : isNone (targetList (target (T at) (id at))) ≡ (getD (k at .nodes) (id at) blankNode) .retired || not (f .target-table .result .there)
   gone = target-gone (K at) (id at) (array-present P) (there-is _ (found sizes (layoutOf (k at)) (id at)) (f .target-table .ensures))
 
 returns : tie.Need-returns

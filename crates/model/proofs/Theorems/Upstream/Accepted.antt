@@ -1,6 +1,6 @@
 -- When a command is accepted, in the words of the original's contracts.
 use Rattle.model.proofs.Logic.{Bool, List·Memᴰ, Option, [], _&&_, _+_, _<_, _||_, _↔_, _∙_, _∷_, _≡_, _≤_, _⊎_, ap, arith, eq-eqb, eqb, eqb-true, false, inl, inr, le-ltb, leb-false, leb-true, length, ltb-false, none, not, refl, some, sym, true, ℕ}
-use Rattle.model.specs.{Commands.Command, Commands.settle, Commands.step, Insertion.checkInsert, Insertion.insertTests, Insertion.inserted, Insertion.parentPresent, Insertion.parentRetired, Interface.distinct, Interface.listed, Interface.taken, Interface.tooLong, Lifecycle.beginCleanupTests, Lifecycle.checkIteration, Lifecycle.finishCleanupTests, Lifecycle.finished, Lifecycle.iterationTests, Lifecycle.leaveIfChangedTests, Lifecycle.leaveTests, Lifecycle.phaseAt, Lifecycle.relies, Lifecycle.removeTests, Lists.all, Lists.any, Lists.isNone, Observers.cleanupStarted, Records.hasParent, Records.isChildOf, Records.isInactive, Records.isLoading, Records.isRunning, Records.isUnloading, Records.parentIn, Records.providerIn, Refusals.Reply, Refusals.accepted, Refusals.first, Refusals.orElse, Resolution.target, Sizes.Sizes, Sizes.listLimit, Soundness.sound, Tables.Tables, Tables.nodeAt, Tables.present, declared.Error.Error, declared.Parent.Parent, declared.Port.Port, declared.PortList.PortList, declared.records.Link.Link, declared.records.Node.Node}
+use Rattle.model.specs.{Commands.Command, Commands.settle, Commands.step, Insertion.checkInsert, Insertion.insertTests, Insertion.inserted, Insertion.parentPresent, Insertion.parentRetired, Interface.distinct, Interface.listed, Interface.taken, Interface.tooLong, Lifecycle.beginCleanupTests, Lifecycle.checkIteration, Lifecycle.finishCleanupTests, Lifecycle.finished, Lifecycle.iterationTests, Lifecycle.leaveIfChangedTests, Lifecycle.leaveTests, Lifecycle.phaseAt, Lifecycle.relies, Lifecycle.removeTests, Lists.all, Lists.any, Lists.isNone, Observers.cleanupStarted, Records.hasParent, Records.isChildOf, Records.isInactive, Records.isLoading, Records.isRunning, Records.isUnloading, Records.parentIn, Records.providerIn, Refusals.Reply, Refusals.accepted, Refusals.first, Refusals.orElse, Resolution.target, Resolution.targetList, Sizes.Sizes, Sizes.listLimit, Soundness.sound, Tables.Tables, Tables.nodeAt, Tables.present, declared.Error.Error, declared.Parent.Parent, declared.Port.Port, declared.PortList.PortList, declared.records.Link.Link, declared.records.Node.Node}
 use Rattle.model.proofs.{Laws.Booleans.and-i, Laws.Booleans.and-l, Laws.Booleans.and-r, Laws.Booleans.clash, Laws.Booleans.not-f, Laws.Booleans.not-t, Laws.Booleans.or-f-l, Laws.Booleans.or-f-r, Laws.Pieces.refuted, Laws.Lists.any-in, Laws.Lists.in-at, Laws.Lists.none-in, Laws.Phases.loading-running, Laws.Phases.running-installed, Laws.Refusals.Passed, Laws.Refusals.skip, Laws.Refusals.step-cases, Theorems.Points.at-node, Theorems.UpdateNode.no-child, Theorems.Upstream.Frames.bindings-kept, Theorems.Upstream.Observed.Coherent, Theorems.Upstream.Observed.coherent-target, Theorems.Upstream.Replies.accepts, Theorems.Upstream.Replies.never-refused-with}
 
 -- ---- retire, leave, leave_if_changed
@@ -27,7 +27,7 @@ module _ (S : Sizes) (T : Tables) (id : ℕ) where
   abbrev leavingIfChanged : Command
   leavingIfChanged = Command.leaveIfChanged id
 
-  pub leave-if-changed-accepts : (accepted ((step S T leavingIfChanged) .reply) ≡ true) ↔ ((present (T .nodes) id ≡ true) × (isRunning (phaseAt T id) ≡ true) × (isNone (target T id) ≡ true))
+  pub leave-if-changed-accepts : (accepted ((step S T leavingIfChanged) .reply) ≡ true) ↔ ((present (T .nodes) id ≡ true) × (isRunning (phaseAt T id) ≡ true) × (isNone (targetList (target T id)) ≡ true))
   leave-if-changed-accepts = (
     λ h. let p : Passed (leaveIfChangedTests T id) = accepts S T leavingIfChanged .0 h in (not-f _ (p .0), not-f _ (p .1 .0), not-f _ (p .1 .1 .0)),
     λ (t, r, n). accepts S T leavingIfChanged .1 (rw t, (rw r, (rw n, tt))),
@@ -36,10 +36,10 @@ module _ (S : Sizes) (T : Tables) (id : ℕ) where
   -- of a running component: done, or refused with 6
   pub leave-if-changed-replies : present (T .nodes) id ≡ true → isRunning (phaseAt T id) ≡ true → DoneOrChanged ((step S T leavingIfChanged) .reply)
   leave-if-changed-replies t r = step-cases (λ o. DoneOrChanged (o .reply)) S T leavingIfChanged
-      (λ e f. inr (ap Reply.refused (only (not (isNone (target T id))) Error.Changed e (sym rest ∙ f))))
+      (λ e f. inr (ap Reply.refused (only (not (isNone (targetList (target T id)))) Error.Changed e (sym rest ∙ f))))
       (λ p. inl refl)
     where
-      rest : first (leaveIfChangedTests T id) ≡ first ((not (isNone (target T id)), Error.Changed) ∷ [])
+      rest : first (leaveIfChangedTests T id) ≡ first ((not (isNone (targetList (target T id))), Error.Changed) ∷ [])
       rest = skip _ _ _ (rw (t, present)) ∙ skip _ _ _ (rw r)
 
 -- refused with 6: running, and there is a target
@@ -54,7 +54,7 @@ pub leave-changed-coherent : (S : Sizes) (T : Tables) (id : ℕ) → sound S T �
 leave-changed-coherent S T id s = step-cases (λ o. o .reply ≡ Reply.refused Error.Changed → Coherent T id) S T (Command.leaveIfChanged id)
     (λ e f q.
     let d : e ≡ Error.Changed = cc in
-    let (x, y, z) = changed-row (not (present (T .nodes) id)) (not (isRunning (phaseAt T id))) (not (isNone (target T id))) (rw d at f) in
+    let (x, y, z) = changed-row (not (present (T .nodes) id)) (not (isRunning (phaseAt T id))) (not (isNone (targetList (target T id)))) (rw d at f) in
     coherent-target S T s id (running-installed (phaseAt T id) (not-f _ y)) .0 (not-t _ z))
     (λ p q. clash true refl (sym (ap accepted (sym q))))
 

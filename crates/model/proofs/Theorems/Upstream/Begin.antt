@@ -1,6 +1,6 @@
 -- begin: when it is accepted, and that the component is then coherent, with what target gave committed.
 use Rattle.model.proofs.Logic.{List, List·Memᴰ, List·Memᴰ·append-cases, Memᴰ·append-right, _+_, _↔_, _∙_, _≡_, _≤_, _⊎_, ap, eqb-false, false, inl, inr, le-ltb, length, ltb-false, map, ne-eqb, not, refl, some, subst, sym, true, ℕ}
-use Rattle.model.specs.{Commands.Command, Commands.step, Lifecycle.beginTests, Lifecycle.begunNode, Lifecycle.begunWith, Lifecycle.bindings, Lifecycle.phaseAt, Records.bindingIn, Records.consumerIn, Records.isInactive, Records.isLoading, Records.liveLink, Refusals.accepted, Resolution.Provides, Resolution.committed, Resolution.target, Sizes.Sizes, Sizes.lastGeneration, Soundness.sound, Tables.Tables, Tables.nodeAt, Tables.notInactive, Tables.present, declared.Binding.Binding, declared.Port.Port, declared.records.Link.Link, declared.records.Node.Node}
+use Rattle.model.specs.{Commands.Command, Commands.step, Lifecycle.beginTests, Lifecycle.begunNode, Lifecycle.begunWith, Lifecycle.bindings, Lifecycle.phaseAt, Records.bindingIn, Records.consumerIn, Records.isInactive, Records.isLoading, Records.liveLink, Refusals.accepted, Resolution.Provides, Resolution.committed, Resolution.target, Resolution.targetList, Sizes.Sizes, Sizes.lastGeneration, Soundness.sound, Tables.Tables, Tables.nodeAt, Tables.notInactive, Tables.present, declared.Binding.Binding, declared.Port.Port, declared.records.Link.Link, declared.records.Node.Node}
 use Rattle.model.proofs.{Laws.Booleans.clash, Laws.Booleans.not-f, Laws.Committed.committed-append, Laws.Committed.committed-idle, Laws.Committed.fresh-mine, Laws.Facts.facts, Laws.Lists.in-map, Laws.Lists.is-some, Laws.Lists.map-in, Laws.Nodes.present-lt, Laws.Refusals.Passed, Theorems.Commands.step-sound, Theorems.Points.at-node, Theorems.Points.node-at, Theorems.Upstream.Frames.declarations-kept, Theorems.Upstream.Frames.others-kept, Theorems.Upstream.Frames.subject-after, Theorems.Upstream.Observed.Available, Theorems.Upstream.Observed.BindingIsTarget, Theorems.Upstream.Observed.Coherent, Theorems.Upstream.Observed.CommittedFrom, Theorems.Upstream.Observed.CompleteTarget, Theorems.Upstream.Observed.coherent-target, Theorems.Upstream.Observed.complete-target, Theorems.Upstream.Observed.target-available, Theorems.Upstream.Replies.accepted-step, Theorems.Upstream.Replies.accepts}
 
 pub record BeginEnabled (S : Sizes) (T : Tables) (id : ℕ) : Type 0 where
@@ -8,7 +8,7 @@ pub record BeginEnabled (S : Sizes) (T : Tables) (id : ℕ) : Type 0 where
   pub available : Available T id
   pub generation : (nodeAt (T .nodes) id) .generation ≡ lastGeneration → ⊥
   -- what the sizes add
-  pub space : length (T .links) + length (bindings (target T id)) ≤ S .links
+  pub space : length (T .links) + length (bindings (targetList (target T id))) ≤ S .links
 
 module _ (S : Sizes) (T : Tables) (id : ℕ) (s : sound S T ≡ true) where
   abbrev beginning : Command
@@ -26,7 +26,7 @@ module _ (S : Sizes) (T : Tables) (id : ℕ) (s : sound S T ≡ true) where
   pub begun-committed : accepted ((step S T beginning) .reply) ≡ true → CommittedFrom T ((step S T beginning) .tables) id
   begun-committed h =
       let p : Passed (beginTests S T id) = accepts S T beginning .0 h in
-      let (bs, e) = is-some (target T id) (p .1 .1 .1 .1 .0) in
+      let (bs, e) = is-some (targetList (target T id)) (p .1 .1 .1 .1 .0) in
       rw (accepted-step S T beginning p, e) (go bs (complete-target S T s id bs e) (rw (not-f (isInactive (phaseAt T id)) (p .1 .0))))
     where
       old :
@@ -46,10 +46,10 @@ module _ (S : Sizes) (T : Tables) (id : ℕ) (s : sound S T ≡ true) where
       }
 
   -- more: what is committed after is the target before, as a list
-  pub begun-target : accepted ((step S T beginning) .reply) ≡ true → target T id ≡ some (committed ((step S T beginning) .tables .links) id)
+  pub begun-target : accepted ((step S T beginning) .reply) ≡ true → targetList (target T id) ≡ some (committed ((step S T beginning) .tables .links) id)
   begun-target h =
       let p : Passed (beginTests S T id) = accepts S T beginning .0 h in
-      let (bs, e) = is-some (target T id) (p .1 .1 .1 .1 .0) in
+      let (bs, e) = is-some (targetList (target T id)) (p .1 .1 .1 .1 .0) in
       let i : notInactive (T .nodes) id ≡ false = rw (not-f (isInactive (phaseAt T id)) (p .1 .0)) in
       rw (accepted-step S T beginning p, e) (ap some (sym (committed-append (T .links) (map (liveLink id) bs) id ∙ rw (committed-idle T id (facts S T s .safe) i) (fresh-mine bs id))))
 

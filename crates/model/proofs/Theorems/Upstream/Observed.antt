@@ -1,7 +1,7 @@
 -- resolve, target and committed as the original's contracts speak of them, and coherence.
-use Rattle.model.proofs.Logic.{List, List·Memᴰ, List·Memᴰ·head, List·Memᴰ·tail, Memᴰ·cast, Option, [], _&&_, _<_, _↔_, _∙_, _∷_, _≡_, _⊎_, ap, arith, eq-eqb, false, inl, inr, length, length-map, none, not, refl, some, subst, suc, sym, true, zero, ℕ}
-use Rattle.model.specs.{Interface.distinct, Interface.taken, Interface.takenBy, Lists.any, Lists.isNone, Lists.keep, Points.At, Records.bindingIn, Records.consumerIn, Records.declaredPort, Records.dependency, Records.ownerIn, Records.portIn, Records.portOf, Records.providerIn, Records.provision, Records.samePort, Resolution.Provides, Resolution.bindPorts, Resolution.committed, Resolution.dependencyPorts, Resolution.isLiveLinkOf, Resolution.joined, Resolution.target, Sizes.Sizes, Soundness.sound, Tables.Tables, Tables.nodeAt, Tables.notInactive, Tables.present, declared.Binding.Binding, declared.Port.Port, declared.records.Link.Link}
-use Rattle.model.proofs.{Laws.Booleans.and-i, Laws.Booleans.and-l, Laws.Booleans.and-r, Laws.Booleans.cases, Laws.Booleans.clash, Laws.Booleans.f-not, Laws.Booleans.not-t, Laws.Committed.live-link-of, Laws.Pieces.refuted, Laws.Facts.Linked, Laws.Facts.LiveOk, Laws.Facts.facts, Laws.Facts.not-restoring, Laws.Facts.port-same, Laws.Facts.same-port, Laws.Lists.any-in, Laws.Lists.never, Laws.Lists.at-in, Laws.Lists.in-at, Laws.Lists.in-keep, Laws.Lists.in-map, Laws.Lists.is-some, Laws.Lists.keep-in, Laws.Lists.map-in, Laws.Lists.none-in, Laws.Records.declaration-is, Laws.Resolution.Targeted, Laws.Resolution.bound-in, Laws.Resolution.bound-ports, Laws.Resolution.target-bound, Laws.Resolution.target-covers, Laws.Resolution.target-needed, Laws.Resolution.targeted, Laws.Resolution.wants-in, Theorems.Points.at-node, Theorems.Points.to-present, Theorems.Resolution.resolve-none, Theorems.Resolution.resolve-some}
+use Rattle.model.proofs.Logic.{List, List·Memᴰ, List·Memᴰ·head, List·Memᴰ·tail, Memᴰ·cast, [], _&&_, _<_, _↔_, _∙_, _∷_, _≡_, _⊎_, ap, arith, eq-eqb, false, inl, inr, length, length-map, none, not, refl, some, subst, suc, sym, true, zero, ℕ}
+use Rattle.model.specs.{Interface.distinct, Interface.taken, Lists.any, Lists.isNone, Lists.keep, Points.At, Records.bindingIn, Records.bindingOf, Records.consumerIn, Records.declaredPort, Records.dependency, Records.ownerIn, Records.portIn, Records.portOf, Records.providerIn, Records.provision, Records.samePort, Resolution.Provides, Resolution.Target, Resolution.before, Resolution.bindPorts, Resolution.committed, Resolution.dependencyPorts, Resolution.isLiveLinkOf, Resolution.joined, Resolution.offers, Resolution.target, Resolution.targetList, Sizes.Sizes, Soundness.sound, Tables.Tables, Tables.nodeAt, Tables.notInactive, Tables.present, declared.Binding.Binding, declared.Port.Port, declared.Resolution.Resolution, declared.records.Link.Link}
+use Rattle.model.proofs.{Laws.Booleans.and-i, Laws.Booleans.and-l, Laws.Booleans.and-r, Laws.Booleans.cases, Laws.Booleans.clash, Laws.Booleans.f-not, Laws.Booleans.not-t, Laws.Committed.live-link-of, Laws.Facts.Linked, Laws.Facts.LiveOk, Laws.Facts.facts, Laws.Facts.not-restoring, Laws.Facts.port-same, Laws.Facts.same-port, Laws.Lists.any-in, Laws.Lists.at-in, Laws.Lists.in-at, Laws.Lists.in-keep, Laws.Lists.in-map, Laws.Lists.is-some, Laws.Lists.keep-in, Laws.Lists.map-in, Laws.Lists.none-in, Laws.Pieces.refuted, Laws.Records.declaration-is, Laws.Resolution.Targeted, Laws.Resolution.bound-in, Laws.Resolution.bound-ports, Laws.Resolution.target-bound, Laws.Resolution.target-covers, Laws.Resolution.target-needed, Laws.Resolution.targeted, Laws.Resolution.wants-in, Theorems.Points.at-node, Theorems.Points.to-present, Theorems.Resolution.Names, Theorems.Resolution.named-is, Theorems.Resolution.names-when, Theorems.Resolution.resolve-exactly, Theorems.Resolution.target-names}
 
 abbrev pub BindingIsTarget : Tables → ℕ → Binding → Type 0
 BindingIsTarget T id b = Provides T (portOf b) (b .provider) × List·Memᴰ (dependency id (portOf b)) (T .declarations)
@@ -37,27 +37,18 @@ Coherent T id = CommittedFrom T T id
 
 -- ---- target
 
-bind-all : (f : Port → Option ℕ) (ps : List Port) → ((p : Port) → List·Memᴰ p ps → (o : ℕ) × (f p ≡ some o)) → isNone (bindPorts f ps) ≡ false
+bind-all : (f : Port → Resolution) (ps : List Port) → ((p : Port) → List·Memᴰ p ps → (o : ℕ) × (f p ≡ Resolution.Provider o)) → isNone (targetList (bindPorts f ps)) ≡ false
 unfolding bindPorts joined
 bind-all f [] h = refl
-bind-all f (p ∷ ps) h =
-    let (o, e) = h p (List·Memᴰ·head refl) in
-    let (bs, g) = is-some (bindPorts f ps) (bind-all f ps (λ q m. h q (List·Memᴰ·tail m))) in
-    rw (e, g)
-
--- a port that does not resolve
-bind-none : (f : Port → Option ℕ) (ps : List Port) → bindPorts f ps ≡ none → (p : Port) × List·Memᴰ p ps × (f p ≡ none)
-unfolding bindPorts joined
-bind-none f [] h = never _ (sym h)
-bind-none f (p ∷ ps) h = go (f p) refl (bindPorts f ps) (λ g. bind-none f ps g) h
+bind-all f (p ∷ ps) h = let (o, e) = h p (List·Memᴰ·head refl) in rw e (go o (bindPorts f ps) (bind-all f ps (λ q m. h q (List·Memᴰ·tail m))))
   where
-    go : (o : Option ℕ) → f p ≡ o → (r : Option (List Binding)) → (r ≡ none → (q : Port) × List·Memᴰ q ps × (f q ≡ none)) → joined p o r ≡ none → (q : Port) × List·Memᴰ q (p ∷ ps) × (f q ≡ none)
-    go none e r g j = (p, List·Memᴰ·head refl, e)
-    go (some o) e none g j = let (q, m, k) = g refl in (q, List·Memᴰ·tail m, k)
-    go (some o) e (some bs) g j = never _ (sym j)
+    go : (o : ℕ) (t : Target) → isNone (targetList t) ≡ false → isNone (targetList (before (bindingOf p o) t)) ≡ false
+    go o (Target.bound bs) n = refl
+    go o (Target.missing u) n = n
+    go o Target.nothing n = n
 
 -- a binding for each dependency record
-pub target-length : (T : Tables) (id : ℕ) (bs : List Binding) → target T id ≡ some bs → length bs ≡ length (dependencyPorts (T .declarations) id)
+pub target-length : (T : Tables) (id : ℕ) (bs : List Binding) → targetList (target T id) ≡ some bs → length bs ≡ length (dependencyPorts (T .declarations) id)
 target-length T id bs h = sym (length-map bs portOf) ∙ ap length (bound-ports _ _ bs (targeted T id bs h .is-bound))
 
 module _ (S : Sizes) (T : Tables) (h : sound S T ≡ true) where
@@ -65,40 +56,41 @@ module _ (S : Sizes) (T : Tables) (h : sound S T ≡ true) where
   pub provider-not-restoring : (p : Port) (o : ℕ) → Provides T p o → (nodeAt (T .nodes) o) .restoring ≡ false
   provider-not-restoring p o w = not-restoring (T .nodes) o _ (facts S T h .safe .nodes o) (rw (at-node (T .nodes) o (w .0) (w .1), w .3))
 
-  pub complete-target : (id : ℕ) (bs : List Binding) → target T id ≡ some bs → CompleteTarget T id bs
+  pub complete-target : (id : ℕ) (bs : List Binding) → targetList (target T id) ≡ some bs → CompleteTarget T id bs
   complete-target id bs e = let t : Targeted T id bs = targeted T id bs e in record {
     there = t .there;
     kept = t .kept;
-    targets = λ b m. (resolve-some S T h (portOf b) (b .provider) .0 (bound-in _ _ bs (t .is-bound) b m), target-needed T id bs t b m);
+    targets = λ b m. (resolve-exactly S T h (portOf b) (Resolution.Provider (b .provider)) .0 (bound-in _ _ bs (t .is-bound) b m), target-needed T id bs t b m);
     covers = target-covers T id bs t;
   }
 
   -- there is a target exactly if the component is available
-  pub target-available : (id : ℕ) → (isNone (target T id) ≡ false) ↔ Available T id
+  pub target-available : (id : ℕ) → (isNone (targetList (target T id)) ≡ false) ↔ Available T id
   target-available id = (forth, back)
     where
-      forth : isNone (target T id) ≡ false → Available T id
+      forth : isNone (targetList (target T id)) ≡ false → Available T id
       forth n =
-          let (bs, e) = is-some (target T id) n in
+          let (bs, e) = is-some (targetList (target T id)) n in
           let c : CompleteTarget T id bs = complete-target id bs e in
           record { there = c .there; kept = c .kept; provided = λ p m. let (b, i, x) = c .covers p m in (b .provider, subst (λ (z : Port). Provides T z (b .provider)) (sym x) ((c .targets b i) .0)) }
 
-      back : Available T id → isNone (target T id) ≡ false
-      back a = rw (target-bound T id (rw (a .there, a .kept))) (bind-all _ _ (λ p m. let (o, w) = a .provided p (wants-in (T .declarations) id p m) in (o, resolve-some S T h p o .1 w)))
+      back : Available T id → isNone (targetList (target T id)) ≡ false
+      back a = rw (target-bound T id (rw (a .there, a .kept))) (bind-all _ _ (λ p m. let (o, w) = a .provided p (wants-in (T .declarations) id p m) in (o, resolve-exactly S T h p (Resolution.Provider o) .1 w)))
 
   -- no target: unavailable, by a dependency that nobody provides if it is present and not retired
-  pub target-unavailable : (id : ℕ) → target T id ≡ none → Unavailable T id
+  pub target-unavailable : (id : ℕ) → targetList (target T id) ≡ none → Unavailable T id
   target-unavailable id e = go (cases (present (T .nodes) id)) (cases ((nodeAt (T .nodes) id) .retired))
     where
       go : (present (T .nodes) id ≡ true) ⊎ (present (T .nodes) id ≡ false) → ((nodeAt (T .nodes) id) .retired ≡ true) ⊎ ((nodeAt (T .nodes) id) .retired ≡ false) → Unavailable T id
       go (inr t) r = Unavailable.absent t
       go (inl t) (inl r) = Unavailable.retired r
       go (inl t) (inr r) =
-          let (p, m, f) = bind-none _ _ (sym (target-bound T id (rw (t, r))) ∙ e) in
-          Unavailable.unprovided p (wants-in (T .declarations) id p m) (resolve-none S T h p .0 f)
+          let (u, m) = names-when T id .1 (t, r, e) in
+          let n : Names T id u = target-names T id u .0 (named-is (target T id) u m) in
+          Unavailable.unprovided (u .port) (at-in (T .declarations) (n .declared .0) _ (n .declared .1)) (λ o w. n .first .unprovided o (sym (n .first .reason) ∙ resolve-exactly S T h (u .port) (Resolution.Provider o) .1 w))
 
   -- a component that is not Inactive and has a target is coherent, and the other way round
-  pub coherent-target : (id : ℕ) → notInactive (T .nodes) id ≡ true → (isNone (target T id) ≡ false) ↔ Coherent T id
+  pub coherent-target : (id : ℕ) → notInactive (T .nodes) id ≡ true → (isNone (targetList (target T id)) ≡ false) ↔ Coherent T id
   coherent-target id i = (λ n. forth (target-available id .0 n), λ c. target-available id .1 (back c))
     where
       back : Coherent T id → Available T id
@@ -160,9 +152,9 @@ places-distinct (x ∷ xs) g = and-i (not (any (samePort x) xs)) _
 
 -- a port is taken exactly if a present owner provides it (not-taken of Theorems/Interface is the other way)
 pub taken-by : (T : Tables) (p : Port) → taken T p ≡ true → (o : ℕ) × (present (T .nodes) o ≡ true) × List·Memᴰ (provision o p) (T .declarations)
-unfolding taken takenBy
+unfolding taken offers
 taken-by T p h =
-    let (d, m, e) = any-in (takenBy (present (T .nodes)) p) (T .declarations) h in
+    let (d, m, e) = any-in (offers (present (T .nodes)) p) (T .declarations) h in
     let b : d .provides && samePort (declaredPort d) p ≡ true = and-l (d .provides && samePort (declaredPort d) p) _ e in
     let x : d .provides ≡ true = and-l (d .provides) _ b in
     let y : declaredPort d ≡ p = same-port _ _ (and-r (d .provides) _ b) in

@@ -1,6 +1,6 @@
 -- `scans::declarations::check_provisions` meets its contract. In each loop, what is left to scan answers as the whole does.
 use Rattle.model.proofs.Logic.{Bool, List, _+_, _-_, _∙_, _≡_, arith, length-map, needs, refl, slice, sym, take, true, ℕ}
-use Rattle.model.specs.{Interface.takenBy, Lists.any, Records.blankDeclaration, Records.blankPort, Records.samePort, declared.Port.Port, declared.records.Declaration.Declaration}
+use Rattle.model.specs.{Resolution.offers, Lists.any, Records.blankDeclaration, Records.blankPort, Records.samePort, declared.Port.Port, declared.records.Declaration.Declaration}
 use Rattle.loops.proofs.{Laws.Distinct.Apart, Laws.Distinct.again-start, Laws.Distinct.apart-end, Laws.Distinct.apart-hit, Laws.Distinct.apart-on, Laws.Distinct.apart-start, Laws.Distinct.apart-twice, Laws.Distinct.distinctApart, Laws.Scanning.Seeking, Laws.Scanning.seek-end, Laws.Scanning.seek-hit, Laws.Scanning.seek-on, Laws.Scanning.seek-start}
 use Rattle.loops.specs.{Columns.flag}
 use Rattle.scans.proofs.{declarations.check_provisions.Statement.statement}
@@ -9,7 +9,7 @@ use Rattle.sizes.specs.{Sizes.IDENTITIES}
 
 -- a present owner provides the port
 abbrev claimed : List Bool → ℕ → List Declaration → Port → Bool
-claimed present declared declarations p = any (takenBy (flag IDENTITIES present) p) (take declared declarations)
+claimed present declared declarations p = any (offers (flag IDENTITIES present) p) (take declared declarations)
 
 abbrev Inv-loop : tie.InvT-loop
 Inv-loop declared declarations present count ports end table ok₀ i p j₀ ok j = (ok ≡ ok₀) × Seeking (samePort p) ports end j (any (samePort p) (slice (i + 1) end ports))
@@ -18,7 +18,7 @@ abbrev μ-loop : tie.MeasureT-loop
 μ-loop declared declarations present count ports end table ok₀ i p j₀ ok j = end - j
 
 abbrev Inv-loop2 : tie.InvT-loop2
-Inv-loop2 declared declarations present count ports end table ok₀ i p j k₀ ok k = (ok ≡ ok₀) × Seeking (takenBy (flag IDENTITIES present) p) declarations table k (claimed present declared declarations p)
+Inv-loop2 declared declarations present count ports end table ok₀ i p j k₀ ok k = (ok ≡ ok₀) × Seeking (offers (flag IDENTITIES present) p) declarations table k (claimed present declared declarations p)
 
 abbrev μ-loop2 : tie.MeasureT-loop2
 μ-loop2 declared declarations present count ports end table ok₀ i p j k₀ ok k = table - k
@@ -35,7 +35,7 @@ scan-holds : tie.Need-scan-holds Inv-loop μ-loop Inv-loop2 μ-loop2 Inv-scan μ
 scan-holds c = (refl, apart-start (simp length-map at (c .before .before .before .good .0 .1 .1 .0 .1 .0 .1)) (c .before .at-most .ensures))
 
 loop2-again : tie.Need-loop2-again Inv-loop μ-loop Inv-loop2 μ-loop2 Inv-scan μ-scan
-loop2-again c = (search, seek-on (search) blankDeclaration (omega arith) (sym (c .before .taken-by .ensures) ∙ c .if2 .left))
+loop2-again c = (search, seek-on (search) blankDeclaration (omega arith) (sym (c .before .offers .ensures) ∙ c .if2 .left))
 
 scan-again : tie.Need-scan-again Inv-loop μ-loop Inv-loop2 μ-loop2 Inv-scan μ-scan
 scan-again c = (cc, search (apart-on, seek-end))
@@ -49,7 +49,7 @@ returns-3 : tie.Need-returns-3 Inv-loop μ-loop Inv-loop2 μ-loop2 Inv-scan μ-s
 returns-3 c =
     let h = c .before .before .before .before .before in
     let o = h .before .before .before .before .before in
-    apart-hit (o .scan .inv .1) (omega arith) (seek-hit (h .loop2 .inv .1) blankDeclaration (omega arith) (sym (c .before .taken-by .ensures) ∙ c .if2 .taken))
+    apart-hit (o .scan .inv .1) (omega arith) (seek-hit (h .loop2 .inv .1) blankDeclaration (omega arith) (sym (c .before .offers .ensures) ∙ c .if2 .taken))
 
 pub check-provisions-spec : {M : Type 1} → statement M
 check-provisions-spec = tie.close (tie.spec Inv-loop μ-loop
@@ -64,7 +64,7 @@ check-provisions-spec = tie.close (tie.spec Inv-loop μ-loop
     (λ c. omega arith) (λ c. omega arith) (λ c κs. search needs) (λ c. omega arith) (λ c. omega arith)  -- mul-q, array-copy-out-q, same-port-requires, add-j-2, loop-less
     (λ c. (search, seek-on (search) blankPort (omega arith) (cc)))  -- loop-again
     (λ c. (refl, seek-start (omega arith) (c .before .before .before .before .before .at-most2 .ensures)))  -- loop2-holds
-    (λ c. omega arith) (λ c. omega arith) (λ c κs. search needs) (λ c. omega arith) (λ c. omega arith)  -- mul-d, array-copy-out-d, taken-by-requires, add-k, loop2-less
+    (λ c. omega arith) (λ c. omega arith) (λ c κs. search needs) (λ c. omega arith) (λ c. omega arith)  -- mul-d, array-copy-out-d, offers-requires, add-k, loop2-less
     loop2-again
     (λ c. omega arith) (λ c. omega arith)  -- add-i, scan-less
     scan-again

@@ -11,7 +11,7 @@ abbrev μ-loop : tie.MeasureT-loop
 
 pub target-spec : {M : Type 1} → statement M
 target-spec = tie.close (tie.spec Inv-loop μ-loop
-    (λ c. search needs) (λ c κs. search needs) (λ c. search needs) (λ c. search needs)  -- slice-aggregate-bytes, bytes-requires, same-length, returns
+    (λ c κs. search needs) (λ c. search needs) (λ c. search needs)  -- no-target-requires, same-length, returns
     (λ c κs. search needs) (λ c κs. search needs) (λ c. search needs) (λ c. search needs)  -- at-most-requires, list-requires, loop-holds, mul-binding
     (λ c. search needs) (λ c κs. search needs) (λ c. search needs) (λ c. search needs)  -- element-copy-out-binding, binding-requires, add-i, loop-less
     (λ c. search needs) (λ c. search needs)  -- loop-again, same-length-2
