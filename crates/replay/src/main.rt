@@ -1,11 +1,14 @@
 // Plays logs of commands: an answer on a line for each command, then the tables, then a line for each present component.
+use libc::STDERR_FILENO;
 use libc::STDIN_FILENO;
 use text::end;
 use text::field;
 use text::number;
 
 fn cannot_read(name: &[u8]) {
-    text::message(b"replay: cannot read ", name, b"");
+    io::write_all(STDERR_FILENO, b"replay: cannot read ");
+    io::write_all(STDERR_FILENO, name);
+    io::write_all(STDERR_FILENO, b"\n");
 }
 
 // An answer's count from 0 and its number.
@@ -33,7 +36,8 @@ fn answers(out: &mut [u8], answers: &[u8], count: usize) -> usize {
 fn replay(fd: i32, name: &[u8]) {
     let mut log = io::large_buffer();
     let n = io::read_full(fd, &mut log);
-    if !text::readable(fd) {
+    let mut more = [0u8; 1];
+    if libc::read(fd, &mut more) < 0 {
         cannot_read(name);
         return;
     }

@@ -1,7 +1,12 @@
 // The status that a log leaves: plays it, and writes a line for each present component.
+use libc::STDERR_FILENO;
 
-fn cannot_read(name: &[u8]) {
-    text::message(b"status: cannot read ", name, b"");
+// A line on standard error about a log.
+fn say(name: &[u8], what: &[u8]) {
+    io::write_all(STDERR_FILENO, b"status: ");
+    io::write_all(STDERR_FILENO, name);
+    io::write_all(STDERR_FILENO, what);
+    io::write_all(STDERR_FILENO, b"\n");
 }
 
 // Says so if the log's last answer ended it: 11 or 12.
@@ -15,14 +20,10 @@ fn ended(answers: &[u8], count: usize, name: &[u8]) {
     }
     let last = answers[place];
     if last == 11 {
-        text::message(b"status: ", name, b" ends in 11: a byte that is no command");
+        say(name, b" ends in 11: a byte that is no command");
     }
     if last == 12 {
-        text::message(
-            b"status: ",
-            name,
-            b" ends in 12: a command without its operands",
-        );
+        say(name, b" ends in 12: a command without its operands");
     }
 }
 
@@ -30,8 +31,9 @@ fn ended(answers: &[u8], count: usize, name: &[u8]) {
 fn show(fd: i32, name: &[u8]) {
     let mut log = io::large_buffer();
     let n = io::read_full(fd, &mut log);
-    if !text::readable(fd) {
-        cannot_read(name);
+    let mut more = [0u8; 1];
+    if libc::read(fd, &mut more) < 0 {
+        say(name, b" cannot be read");
         return;
     }
     let mut answers = io::large_buffer();
@@ -46,7 +48,7 @@ fn show(fd: i32, name: &[u8]) {
 fn show_file(name: &[u8]) {
     let fd = os::open_read(name);
     if fd < 0 {
-        cannot_read(name);
+        say(name, b" cannot be read");
         return;
     }
     show(fd, name);

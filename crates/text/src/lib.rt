@@ -10,7 +10,6 @@ pub mod status;
 pub mod stored;
 pub mod words;
 
-use libc::STDERR_FILENO;
 use libc::STDOUT_FILENO;
 
 // Writes what is gathered; the next place is the start.
@@ -82,18 +81,4 @@ pub fn end(out: &mut [u8], at: usize) -> usize
         return flush(out, at);
     }
     at
-}
-
-// A line on standard error, about a file.
-pub fn message(before: &[u8], name: &[u8], after: &[u8]) {
-    io::write_all(STDERR_FILENO, before);
-    io::write_all(STDERR_FILENO, name);
-    io::write_all(STDERR_FILENO, after);
-    io::write_all(STDERR_FILENO, b"\n");
-}
-
-// Whether what is open can be read on, or is at its end.
-pub fn readable(fd: i32) -> bool {
-    let mut more = [0u8; 1];
-    0 <= libc::read(fd, &mut more)
 }

@@ -1,6 +1,5 @@
 -- `scans::resolution::owned` meets its contract.
-use Rattle.model.proofs.Logic.{_∙_, _≡_, ap, cond, needs, sym}
-use Rattle.model.specs.{declared.Resolution.Resolution}
+use Rattle.model.proofs.Logic.{_∙_, needs, sym}
 use Rattle.scans.proofs.{resolution.owned.Statement.statement}
 use Rattle.scans.proofs.resolution.owned.Tie as tie
 
