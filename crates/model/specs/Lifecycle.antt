@@ -33,7 +33,9 @@ abbrev pub beginNodeTests : Node → Tests
 beginNodeTests n = absent n ∷ (not (isInactive (n .phase)), Error.InvalidState) ∷ (n .retired, Error.Retired) ∷ (eqb (n .generation) lastGeneration, Error.Capacity) ∷ []
 
 abbrev pub beginTests : Sizes → Tables → ℕ → Tests
-beginTests S T id = beginNodeTests (nodeAt (T .nodes) id) ++ ((isNone (targetList (target T id)), Error.MissingDependency) ∷ (ltb (S .links) (length (T .links) + length (bindings (targetList (target T id)))), Error.Capacity) ∷ [])
+beginTests S T id =
+    beginNodeTests (nodeAt (T .nodes) id)
+    ++ ((isNone (targetList (target T id)), Error.MissingDependency) ∷ (ltb (S .links) (length (T .links) + length (bindings (targetList (target T id)))), Error.Capacity) ∷ [])
 
 -- Loading, the next generation
 abbrev pub begunNode : Node → Node

@@ -26,26 +26,29 @@ resolve-found {S} {k} K =
     ∙ ap (λ (F : ℕ → Bool). lookUp (present ((tablesOf k) .nodes)) F ds) (nodes-flagged K isProviding refl)
 
 module _ {S : Sizes} {k : Layout} (K : SoundKernel S k) (id : ℕ) where
+  abbrev node : Node
+  node = getD (k .nodes) id blankNode
+
   -- of a present component that is not retired it is the target
-  pub target-found : isUntargeted (getD (k .nodes) id blankNode) ≡ false → target (tablesOf k) id ≡ found S k id
+  pub target-found : isUntargeted node ≡ false → target (tablesOf k) id ≡ found S k id
   unfolding tablesOf
   target-found h =
       target-bound (tablesOf k) id (node-has K isUntargeted id h)
       ∙ ap (λ (f : Port → Resolution). bindPorts f (dependencyPorts (take (k .declarationCount) (k .declarations)) id)) (sym (resolve-found K))
 
   -- of a retired one there is none
-  pub target-retired : (getD (k .nodes) id blankNode) .retired ≡ true → target (tablesOf k) id ≡ Target.nothing
-  target-retired q = target-none (tablesOf k) id (node-has K isUntargeted id (rw (q, or-true (not ((getD (k .nodes) id blankNode) .present)))))
+  pub target-retired : node .retired ≡ true → target (tablesOf k) id ≡ Target.nothing
+  target-retired q = target-none (tablesOf k) id (node-has K isUntargeted id (rw (q, or-true (not (node .present)))))
 
   -- whether a present one has none
-  pub target-gone : (getD (k .nodes) id blankNode) .present ≡ true → {there : Bool} → there ≡ not (isNone (targetList (found S k id))) → isNone (targetList (target (tablesOf k) id)) ≡ (getD (k .nodes) id blankNode) .retired || not there
-  target-gone p {there} h = go (cases ((getD (k .nodes) id blankNode) .retired))
+  pub target-gone : node .present ≡ true → {there : Bool} → there ≡ not (isNone (targetList (found S k id))) → isNone (targetList (target (tablesOf k) id)) ≡ node .retired || not there
+  target-gone p {there} h = go (cases (node .retired))
     where
       again : (b : Bool) → b ≡ not (not b)
       again true = refl
       again false = refl
 
-      go : ((getD (k .nodes) id blankNode) .retired ≡ true) ⊎ ((getD (k .nodes) id blankNode) .retired ≡ false) → isNone (targetList (target (tablesOf k) id)) ≡ (getD (k .nodes) id blankNode) .retired || not there
+      go : (node .retired ≡ true) ⊎ (node .retired ≡ false) → isNone (targetList (target (tablesOf k) id)) ≡ node .retired || not there
       go (inl q) = rw (target-retired q, q)
       go (inr q) = ap (λ (t : Target). isNone (targetList t)) (target-found (rw (p, q))) ∙ rw (q, h) (again (isNone (targetList (found S k id))))
 

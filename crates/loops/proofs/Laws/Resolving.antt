@@ -63,12 +63,16 @@ module _ (r : Port → Resolution) (id n : ℕ) (f : ℕ → Declaration) (end i
     unfolding dependencyPorts keep
     bind-skip t acc = rw (rows-next n i end f l m, keep, t)
 
-    pub bind-take : (o : ℕ) → isDependencyOf id (f i) ≡ true → r (f i .port) ≡ Resolution.Provider o → (acc : List Binding) → bound r id n f end i acc ≡ bound r id n f end (i + 1) (acc ++ (bindingOf (f i .port) o ∷ []))
+    pub bind-take :
+        (o : ℕ) → isDependencyOf id (f i) ≡ true → r (f i .port) ≡ Resolution.Provider o →
+        (acc : List Binding) → bound r id n f end i acc ≡ bound r id n f end (i + 1) (acc ++ (bindingOf (f i .port) o ∷ []))
     unfolding dependencyPorts keep bindPorts
     bind-take o t q acc = rw (rows-next n i end f l m, keep, t, bindPorts, q) (after-joined acc (f i .port) o _)
 
     -- a port without a provider ends it
-    pub bind-missing : (w : Resolution) → isDependencyOf id (f i) ≡ true → r (f i .port) ≡ w → ((o : ℕ) → w ≡ Resolution.Provider o → ⊥) → (acc : List Binding) → bound r id n f end i acc ≡ Target.missing (record { port = f i .port; found = w })
+    pub bind-missing :
+        (w : Resolution) → isDependencyOf id (f i) ≡ true → r (f i .port) ≡ w → ((o : ℕ) → w ≡ Resolution.Provider o → ⊥) →
+        (acc : List Binding) → bound r id n f end i acc ≡ Target.missing (record { port = f i .port; found = w })
     unfolding dependencyPorts keep bindPorts joined
     bind-missing (Resolution.Provider o) t q x acc = absurd (x o refl)
     bind-missing (Resolution.NotActive o) t q x acc = rw (rows-next n i end f l m, keep, t, bindPorts, q)

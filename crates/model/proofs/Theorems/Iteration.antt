@@ -22,7 +22,9 @@ committed-in ls id b m =
     let (i, h) = in-keep (isLiveLinkOf id) ls n in
     (l, i, (live-link-of id l h) .0, e)
 
-pub target-committed : (T : Tables) (id : ℕ) (bs : List Binding) → Safe T → map portOf (committed (T .links) id) ≡ dependencyPorts (T .declarations) id → targetList (target T id) ≡ some bs → bs ≡ committed (T .links) id
+pub target-committed :
+    (T : Tables) (id : ℕ) (bs : List Binding) → Safe T →
+    map portOf (committed (T .links) id) ≡ dependencyPorts (T .declarations) id → targetList (target T id) ≡ some bs → bs ≡ committed (T .links) id
 target-committed T id bs k e h =
     let t : Targeted T id bs = targeted T id bs h in
     same-bindings bs (committed (T .links) id) (bound-ports _ _ bs (t .is-bound) ∙ sym e) (λ b c m n p.

@@ -87,7 +87,8 @@ module _ (S : Sizes) (T : Tables) (h : sound S T ≡ true) where
       go (inl t) (inr r) =
           let (u, m) = names-when T id .1 (t, r, e) in
           let n : Names T id u = target-names T id u .0 (named-is (target T id) u m) in
-          Unavailable.unprovided (u .port) (at-in (T .declarations) (n .declared .0) _ (n .declared .1)) (λ o w. n .first .unprovided o (sym (n .first .reason) ∙ resolve-exactly S T h (u .port) (Resolution.Provider o) .1 w))
+          let found : (o : ℕ) → Provides T (u .port) o → u .found ≡ Resolution.Provider o = λ o w. sym (n .first .reason) ∙ resolve-exactly S T h (u .port) (Resolution.Provider o) .1 w in
+          Unavailable.unprovided (u .port) (at-in (T .declarations) (n .declared .0) _ (n .declared .1)) (λ o w. n .first .unprovided o (found o w))
 
   -- a component that is not Inactive and has a target is coherent, and the other way round
   pub coherent-target : (id : ℕ) → notInactive (T .nodes) id ≡ true → (isNone (targetList (target T id)) ≡ false) ↔ Coherent T id

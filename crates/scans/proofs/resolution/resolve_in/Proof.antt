@@ -1,5 +1,5 @@
 -- `scans::resolution::resolve_in` meets its contract. The rows that are left resolve the port as all the rows do.
-use Rattle.model.proofs.Logic.{_+_, _-_, _∙_, _∷_, _≡_, arith, needs, slice, take, ℕ}
+use Rattle.model.proofs.Logic.{List, _+_, _-_, _∙_, _∷_, _≡_, arith, needs, slice, take, ℕ}
 use Rattle.model.specs.{Resolution.lookUp, Resolution.offers, declared.records.Declaration.Declaration}
 use Rattle.loops.proofs.{Laws.Columns.rows-most, Laws.Columns.rows-next, Laws.Resolving.Resolving, Laws.Resolving.resolve-end, Laws.Resolving.resolve-hit, Laws.Resolving.resolve-on, Laws.Resolving.resolve-start}
 use Rattle.loops.specs.{Columns.declarationAt, Columns.declarationsOf, Columns.flag, Columns.rowsFrom}
@@ -17,9 +17,14 @@ Inv-loop owner key realm provides present providing count port end i₀ i =
 abbrev μ-loop : tie.MeasureT-loop
 μ-loop owner key realm provides present providing count port end i₀ i = end - i
 
--- the rows
-abbrev row : tie.At-loop Inv-loop μ-loop → ℕ → Declaration
-row l = let a = l .before .before .args in declarationAt (a .owner .now) (a .key .now) (a .realm .now) (a .provides .now)
+-- the rows, at the loop
+module _ (l : tie.At-loop Inv-loop μ-loop) where
+  abbrev row : ℕ → Declaration
+  row = let a = l .before .before .args in declarationAt (a .owner .now) (a .key .now) (a .realm .now) (a .provides .now)
+
+  -- those from this place on
+  abbrev rows : ℕ → List Declaration
+  rows i = slice i (l .before .at-most .result) (rowsFrom 0 DECLARATIONS row)
 
 -- in a turn, the owner's flag read, from where the fields were compared
 module _ (v : tie.After-if12 Inv-loop μ-loop) where
@@ -30,7 +35,7 @@ module _ (v : tie.After-if12 Inv-loop μ-loop) where
   turn = told .before .before .before
 
   -- the next row
-  next : slice (turn .loop .i) (turn .before .at-most .result) (rowsFrom 0 DECLARATIONS (row turn)) ≡ row turn (turn .loop .i) ∷ slice (turn .loop .i + 1) (turn .before .at-most .result) (rowsFrom 0 DECLARATIONS (row turn))
+  next : rows turn (turn .loop .i) ≡ row turn (turn .loop .i) ∷ rows turn (turn .loop .i + 1)
   next = rows-next DECLARATIONS (turn .loop .i) (turn .before .at-most .result) (row turn) (omega arith) (omega arith)
 
 returns : tie.Need-returns Inv-loop μ-loop

@@ -54,7 +54,9 @@ returns c =
     let n = t .before .before .before in
     let j = n .before .loop in
     let w = v .resolve-in .result in
-    let stops = bind-missing (r (s n)) (s n .args .id) DECLARATIONS (row (s n)) (cut n .at-most .result) (j .i) (omega arith) (omega arith) w (t .if1 .taken) (sym (v .resolve-in .ensures)) (unprovided w (m .match .keys2)) (j .inv .kept) in
+    let looked-up = sym (v .resolve-in .ensures) in
+    let end = cut n .at-most .result in
+    let stops = bind-missing (r (s n)) (s n .args .id) DECLARATIONS (row (s n)) end (j .i) (omega arith) (omega arith) w (t .if1 .taken) looked-up (unprovided w (m .match .keys2)) (j .inv .kept) in
     c .missing-target .ensures ∙ ap targetBindings (sym (j .inv .whole ∙ stops))
 
 loop-again : tie.Need-loop-again Inv-loop μ-loop

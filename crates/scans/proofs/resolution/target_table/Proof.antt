@@ -3,24 +3,32 @@ use Rattle.model.proofs.Logic.{_∙_, ap, needs, take}
 use Rattle.scans.specs.{declared.NodeFlags.NodeFlags}
 use Rattle.model.specs.{Resolution.bindPorts, Resolution.dependencyPorts, Resolution.lookUp}
 use Rattle.loops.specs.{Columns.flag}
-use Rattle.results.specs.{Results.targetBindings}
+use Rattle.results.specs.{Results.targetBindings, declared.TargetBindings.TargetBindings}
 use Rattle.scans.proofs.{resolution.target_table.Statement.statement}
 use Rattle.scans.proofs.resolution.target_table.Tie as tie
 use Rattle.sizes.specs.{Sizes.IDENTITIES}
 
 -- the declarations written into columns, after the flags
 module _ (w : tie.After-declaration-columns) where
+  abbrev columns : tie.After-owner
+  columns = let blank = w .before in blank .before .before .before
+
   abbrev flags : tie.After-node-flags
-  flags = let blank = w .before in blank .before .before .before .before .before .before
+  flags = columns .before .before .before
+
+  -- the answer by these flags
+  abbrev seen : NodeFlags → TargetBindings
+  seen fs =
+      let a = flags .before .args in
+      let ds = take (a .count) (a .declarations) in
+      targetBindings (bindPorts (lookUp (flag IDENTITIES (fs .present)) (flag IDENTITIES (fs .providing)) ds) (dependencyPorts ds (a .id)))
+
+-- lent to the scan
+abbrev written : tie.After-target-in → tie.After-declaration-columns
+written c = let lent = c .before in let key = lent .before .before .before .before in key .before .before
 
 returns : tie.Need-returns
-returns c =
-    let lent = c .before in
-    let w = lent .before .before .before .before .before .before in
-    let a = flags w .before .args in
-    let ds = take (a .count) (a .declarations) in
-    rw (w .declaration-columns .ensures .0) at (c .target-in .ensures)
-    ∙ ap (λ (fs : NodeFlags). let seen = lookUp (flag IDENTITIES (fs .present)) (flag IDENTITIES (fs .providing)) ds in targetBindings (bindPorts seen (dependencyPorts ds (a .id)))) (flags w .node-flags .ensures)
+returns c = let w = written c in rw (w .declaration-columns .ensures .0) at (c .target-in .ensures) ∙ ap (seen w) (flags w .node-flags .ensures)
 
 pub target-table-spec : {M : Type 1} → statement M
 target-table-spec = tie.close (tie.spec
