@@ -1,4 +1,5 @@
 //! copies [LIST]: bytes copied and filled per command by memcpy, memmove and memset, and the sizes of 1 KB and more.
+//! With the cfg two_places it is copies_two_places.
 #![allow(dead_code)]
 mod controllers;
 mod lists;
@@ -7,12 +8,16 @@ mod original;
 mod rattle;
 mod script;
 mod separate;
+mod side;
+#[cfg_attr(two_places, path = "two_places.rs")]
 mod sides;
+#[cfg(not(two_places))]
 mod together;
 mod wrapped;
 
 use script::Script;
-use sides::{Side, SIDES};
+use side::Side;
+use sides::SIDES;
 use wrapped::Counted;
 
 const REPEATS: usize = 4;
@@ -21,12 +26,13 @@ fn main() {
     let wanted = std::env::args().nth(1).unwrap_or_default();
     println!("| list | kernel | bytes copied | bytes filled | copies of 1 KB and more: size x calls |");
     println!("|---|---|---|---|---|");
-    for list in lists::all().iter().filter(|l| l.name().starts_with(&wanted)) {
+    for list in lists::all().iter().filter(|l| sides::plays(l) && l.name().starts_with(&wanted)) {
         let (whole, rest) = list.scripts(REPEATS);
         for side in &SIDES {
             let (with, without) = (counted(side, &whole), counted(side, &rest));
+            let commands = (list.measured(REPEATS) * side.plays.len()) as f64;
             let per_command = |w: &[u64], o: &[u64]| -> Vec<f64> {
-                w.iter().zip(o).map(|(w, o)| (*w as f64 - *o as f64) / list.measured(REPEATS) as f64).collect()
+                w.iter().zip(o).map(|(w, o)| (*w as f64 - *o as f64) / commands).collect()
             };
             let copies = per_command(&with.copies, &without.copies);
             let fills = per_command(&with.fills, &without.fills);
@@ -42,13 +48,15 @@ fn main() {
     }
 }
 
-/// What one play calls.
+/// What a play by each of the side's players calls.
 fn counted(side: &Side, script: &Script) -> Counted {
-    let mut answers = vec![0; script.len()];
     let before = wrapped::so_far();
-    let answered = (side.play)(&script.log, &mut answers);
+    for play in side.plays {
+        let mut answers = vec![0; script.len()];
+        let answered = play(&script.log, &mut answers);
+        assert!(answered == script.len() && answers == script.answers, "wrong answers of {}", side.name);
+    }
     let after = wrapped::so_far();
-    assert!(answered == script.len() && answers == script.answers, "wrong answers of {}", side.name);
     let less = |a: Vec<u64>, b: Vec<u64>| a.iter().zip(&b).map(|(a, b)| a - b).collect();
     Counted { copies: less(after.copies, before.copies), fills: less(after.fills, before.fills) }
 }

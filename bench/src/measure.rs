@@ -2,7 +2,8 @@
 use crate::clock;
 use crate::lists::List;
 use crate::script::Script;
-use crate::sides::{Side, SIDES};
+use crate::side::Side;
+use crate::sides::SIDES;
 
 /// A list repeats its measured commands until they take this many nanoseconds and, where repeating brings that about, are half as many as the others.
 const ENOUGH: f64 = 2_000_000.0;
@@ -28,29 +29,30 @@ pub struct Times {
 /// The times of each list on each side.
 pub fn run(lists: &[List], rounds: usize) -> Vec<[Times; 4]> {
     let mut samples: Vec<[Samples; 4]> = lists.iter().map(|l| SIDES.each_ref().map(|s| Samples::new(s, l))).collect();
-    for _ in 0..rounds {
+    for round in 0..rounds {
         for sides in &mut samples {
             for (side, samples) in SIDES.iter().zip(sides) {
-                samples.with.push(time(side, &samples.whole));
-                samples.without.push(time(side, &samples.rest));
+                samples.with.push(time(side, round, &samples.whole));
+                samples.without.push(time(side, round, &samples.rest));
             }
         }
     }
     samples.iter().map(|s| s.each_ref().map(Samples::times)).collect()
 }
 
-/// The nanoseconds of a play, whose answers must be the script's.
-fn time(side: &Side, script: &Script) -> f64 {
+/// The nanoseconds of a round's play, whose answers must be the script's.
+fn time(side: &Side, round: usize, script: &Script) -> f64 {
     let mut answers = vec![0xEE; script.len()];
+    let play = side.play(round);
     let start = clock::now();
-    let answered = (side.play)(&script.log, &mut answers);
+    let answered = play(&script.log, &mut answers);
     let taken = clock::now() - start;
     assert!(answered == script.len() && answers == script.answers, "wrong answers of {}", side.name);
     taken as f64
 }
 
 fn shortest_of_3(side: &Side, script: &Script) -> f64 {
-    shortest(&[(); 3].map(|()| time(side, script)))
+    shortest(&[0, 1, 2].map(|round| time(side, round, script)))
 }
 
 fn shortest(times: &[f64]) -> f64 {

@@ -7,6 +7,7 @@ mod original;
 mod rattle;
 mod script;
 mod separate;
+mod side;
 mod sides;
 mod together;
 
@@ -22,7 +23,7 @@ fn main() {
     let (whole, rest) = list.scripts(repeats);
     let script = if part == "whole" { whole } else { rest };
     let mut answers = vec![0; script.len()];
-    let answered = (side.play)(&script.log, &mut answers);
+    let answered = side.play(0)(&script.log, &mut answers);
     assert!(answered == script.len() && answers == script.answers, "wrong answers");
     println!("{}", list.measured(repeats));
 }

@@ -1,4 +1,5 @@
 //! times [ROUNDS] [LIST]: nanoseconds per command of the kernels, for all lists or those whose name has LIST.
+//! With the cfg two_places it is times_two_places.
 mod clock;
 mod controllers;
 mod lists;
@@ -8,11 +9,15 @@ mod original;
 mod rattle;
 mod script;
 mod separate;
+mod side;
+#[cfg_attr(two_places, path = "two_places.rs")]
 mod sides;
+#[cfg(not(two_places))]
 mod together;
 
 use lists::List;
 use measure::Times;
+use sides::{ABOUT, RATIOS, SIDES};
 
 fn main() {
     let words: Vec<String> = std::env::args().skip(1).collect();
@@ -23,27 +28,30 @@ fn main() {
     }
     let wanted = words.get(1).map_or("", |w| w);
     let mut lists = lists::all();
-    lists.retain(|l| l.name().contains(wanted));
-    sides::check(&lists);
+    lists.retain(|l| sides::plays(l) && l.name().contains(wanted));
+    side::check(&SIDES, &lists);
     println!("answers: the same from all four, and as expected, on {} lists", lists.len());
     println!("rounds: {rounds}; nanoseconds of processor time per command, best / median");
-    println!(
-        "(a) the compiled Rattle kernel; (b) lib.rs's bodies, no entry test; plain Rust with the same entry test:"
-    );
-    println!("(c) as a crate of its own, (d) in one module with its caller");
+    println!("{ABOUT}");
     let times = measure::run(&lists, rounds);
     print(&lists, &times);
 }
 
 fn print(lists: &[List], times: &[[Times; 4]]) {
-    println!("| controller | nodes, declarations, links (live) | commands | (a) | (b) | (c) | (d) | a/c | a/d | a/b |");
-    println!("|---|---|---|---|---|---|---|---|---|---|");
-    for (list, [a, b, c, d]) in lists.iter().zip(times) {
+    let names: Vec<&str> = SIDES.iter().map(|s| s.column).chain(RATIOS.iter().map(|r| r.0)).collect();
+    println!("| controller | nodes, declarations, links (live) | commands | {} |", names.join(" | "));
+    println!("|---|---|---{}|", "|---".repeat(names.len()));
+    for (list, times) in lists.iter().zip(times) {
         let (whole, _) = list.scripts(1);
         let s = original::sizes(&whole.log, &mut vec![0; whole.len()]);
         let size = format!("{}, {}, {} ({})", s.nodes, s.declarations, s.links, s.live);
-        let times = [a, b, c, d].map(|t| format!("{:.0} / {:.0}", t.best, t.median)).join(" | ");
-        let ratios = [c, d, b].map(|t| format!("{:.2} / {:.2}", a.best / t.best, a.median / t.median)).join(" | ");
-        println!("| {} | {size} | {} | {times} | {ratios} |", list.controller, list.commands);
+        let each = times.iter().map(|t| format!("{:.0} / {:.0}", t.best, t.median));
+        let ratios = RATIOS.iter().map(|&(_, a, b)| ratio(times[a], times[b]));
+        let columns: Vec<String> = each.chain(ratios).collect();
+        println!("| {} | {size} | {} | {} |", list.controller, list.commands, columns.join(" | "));
     }
+}
+
+fn ratio(a: Times, b: Times) -> String {
+    format!("{:.2} / {:.2}", a.best / b.best, a.median / b.median)
 }

@@ -40,6 +40,17 @@ impl Call {
             Command::Configure(id) => Call::Configure(id.into()),
         })
     }
+
+    /// The identity that a call names, as the component or as the parent.
+    pub fn named(self) -> Option<usize> {
+        match self {
+            Call::CompactBindings | Call::CompactDeclarations => None,
+            Call::Insert(parent) => parent,
+            Call::Declare(id, _) | Call::Release(id, _) | Call::Configure(id) => Some(id),
+            Call::Begin(id) | Call::Finish(id) | Call::Leave(id) | Call::LeaveIfChanged(id) => Some(id),
+            Call::Retire(id) | Call::BeginCleanup(id) | Call::FinishCleanup(id) | Call::Remove(id) => Some(id),
+        }
+    }
 }
 
 /// The parent that a log's byte stands for.

@@ -30,6 +30,8 @@ pub fn all() -> Vec<(String, Tables)> {
         ("retired in every phase".to_string(), phases(true)),
         ("not retired in every phase".to_string(), phases(false)),
         ("parents and children".to_string(), parents()),
+        ("one identity, absent, with a dead link".to_string(), Tables::new().absent().dead(0, A, 0)),
+        ("64 absent identities".to_string(), absent_chain()),
     ];
     found.extend(generations());
     found.extend(full());
@@ -76,7 +78,7 @@ fn chain() -> Tables {
 
 /// 0 and 2 are absent and were never retired, which no log leaves; both provide what 1 provides.
 fn absent_owners() -> Tables {
-    let kernel = Tables::new().absent().generation(3).node(ACTIVE).absent().generation(MOST).parent(MOST);
+    let kernel = Tables::new().absent().generation(3).node(ACTIVE).absent().generation(MOST).parent(1);
     let kernel = kernel.absent().retired(true).node(INACTIVE).node(INACTIVE);
     let kernel = kernel.provides(0, A).depends(0, MISSING).provides(2, A).provides(1, A).provides(0, A);
     let kernel = kernel.provides(3, B).depends(3, A).depends(4, A).depends(5, B);
@@ -90,11 +92,11 @@ fn repeated_provision() -> Tables {
     kernel.provides(2, B).depends(1, A)
 }
 
-/// Of absent, impossible and restoring identities, of one component with itself, and in a circle.
+/// Of absent, never begun and restoring identities, of the last one, of one component with itself, and in a circle.
 fn dead_links() -> Tables {
-    let kernel = provider().node(INACTIVE).absent().restoring().depends(3, A).provides(3, MISSING);
-    let kernel = kernel.dead(MOST, A, MOST).dead(0, A, 0).dead(2, B, 1).dead(1, B, 2).dead(3, MISSING, 64);
-    kernel.live(3, A, 0).dead(0, MISSING, 3).dead(3, A, 0).dead(64, A, 0)
+    let kernel = provider().node(INACTIVE).absent().restoring().absent().depends(3, A).provides(3, MISSING);
+    let kernel = kernel.dead(4, A, 4).dead(0, A, 0).dead(2, B, 1).dead(1, B, 2).dead(3, MISSING, 4);
+    kernel.live(3, A, 0).dead(0, MISSING, 3).dead(3, A, 0).dead(4, A, 0)
 }
 
 /// A component in each phase, the last restoring; each relies on 0.
@@ -113,8 +115,17 @@ fn phases(retired: bool) -> Tables {
 /// Absent children and absent parents of absent ones; a retired Inactive parent with a present child and one without.
 fn parents() -> Tables {
     let kernel = Tables::new().node(INACTIVE).retired(true).node(INACTIVE).parent(0).absent().parent(1);
-    let kernel = kernel.node(INACTIVE).retired(true).absent().parent(3).absent().parent(5).absent().parent(2);
-    kernel.node(LOADING).parent(1).absent().parent(8).retired(true)
+    let kernel = kernel.node(INACTIVE).retired(true).absent().parent(3).absent().parent(4);
+    kernel.node(LOADING).parent(1).absent().parent(2).retired(true)
+}
+
+/// Each under the one before it; dead links between the first, the last and the one before that.
+fn absent_chain() -> Tables {
+    let last = IDENTITIES as u64 - 1;
+    let under = |kernel: Tables, id| kernel.absent().parent(id - 1).retired(id % 3 > 0);
+    let kernel = (1..=last).fold(Tables::new().absent(), under);
+    let kernel = kernel.provides(last, A).depends(last, B).depends(0, A);
+    kernel.dead(last, A, last - 1).dead(last - 1, A, last).dead(last, B, last).dead(0, A, last).dead(last, A, 0)
 }
 
 /// The two largest generations, with the dependency met and missing, retired or not, without links and with 512.
@@ -134,10 +145,12 @@ fn generations() -> Vec<(String, Tables)> {
     found
 }
 
+/// Dead links of every identity as consumer with the last one as provider, then with the one before it, and so on.
 fn with_dead_links(mut kernel: Tables, count: usize) -> Tables {
+    let identities = kernel.0.nodes.len() as u64;
     while kernel.0.links.len() < count {
-        let id = kernel.0.links.len() as u64 % 70;
-        kernel = kernel.dead(id, A, 69 - id);
+        let at = kernel.0.links.len() as u64;
+        kernel = kernel.dead(at % identities, A, identities - 1 - at / identities % identities);
     }
     kernel
 }

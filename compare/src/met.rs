@@ -40,10 +40,10 @@ const INTENDED: [Intended; 8] = [
     Intended::Links,
 ];
 
-/// A kind of kernel that no log makes, or that is at a size.
+/// A kind of kernel that no log makes, or that is at the edge of a size or of soundness.
 type Kind = (&'static str, fn(&Record, &Reference) -> bool);
 
-const KINDS: [Kind; 10] = [
+const KINDS: [Kind; 13] = [
     ("a present component of generation 2^64 - 2", |t, _| generation(t, MOST - 1)),
     ("a present component of generation 2^64 - 1", |t, _| generation(t, MOST)),
     ("64 identities", |t, _| t.nodes.len() == IDENTITIES),
@@ -55,8 +55,15 @@ const KINDS: [Kind; 10] = [
     ("a Loading provider of a live link", |t, _| {
         t.links.iter().any(|l| l.live == 1 && t.nodes[l.binding.provider as usize].phase == LOADING)
     }),
-    ("a dead link of an identity that was never issued", |t, _| {
-        t.links.iter().any(|l| l.consumer.max(l.binding.provider) >= t.nodes.len() as u64)
+    ("a dead link whose consumer or provider is the last identity", |t, _| {
+        in_dead_links(t).any(|id| id + 1 == t.nodes.len())
+    }),
+    ("a dead link of an absent identity", |t, _| in_dead_links(t).any(|id| t.nodes[id].present == 0)),
+    ("an absent identity whose parent is the one before it", |t, _| {
+        absent_children(t).any(|(id, parent)| parent + 1 == id)
+    }),
+    ("an absent identity whose parent is absent", |t, _| {
+        absent_children(t).any(|(_, parent)| t.nodes[parent].present == 0)
     }),
 ];
 
@@ -67,6 +74,8 @@ pub struct Met {
     pub questions: u64,
     pub tables: u64,
     pub lookups: Lookups,
+    /// Commands and questions that name an identity that no kernel has.
+    far: [u64; 2],
     kinds: [u64; KINDS.len()],
     answers: [[u64; 10]; 16],
     intended: [[u64; 10]; INTENDED.len()],
@@ -84,11 +93,18 @@ impl Met {
 
     pub fn command(&mut self, call: Call, step: &Step, before: &Record) {
         self.commands += 1;
+        self.far[0] += u64::from(far(call.named()));
         self.answer(place(call), step);
         let Call::Begin(id) = call else { return };
         let generation = before.nodes.get(id).map(|n| n.generation);
         self.last_begins[0] += u64::from(step.answer == 0 && generation == Some(MOST - 1));
         self.last_begins[1] += u64::from(step.own == 9 && generation == Some(MOST));
+    }
+
+    /// Questions that name an identity, or none.
+    pub fn asked(&mut self, named: Option<usize>, count: u64) {
+        self.questions += count;
+        self.far[1] += if far(named) { count } else { 0 };
     }
 
     pub fn answer(&mut self, place: usize, step: &Step) {
@@ -103,6 +119,7 @@ impl Met {
             "{} kernels, {} commands, {} questions, tables compared {} times",
             self.kernels, self.commands, self.questions, self.tables
         );
+        println!("an identity of 64 or above is named by {} commands and {} questions", self.far[0], self.far[1]);
         println!(
             "begin done at generation 2^64 - 2: {}, refused at 2^64 - 1: {}",
             self.last_begins[0], self.last_begins[1]
@@ -123,6 +140,11 @@ impl Met {
             println!("{}", refused.row(met));
         }
     }
+}
+
+/// Whether a call names an identity that no kernel has.
+fn far(named: Option<usize>) -> bool {
+    named.is_some_and(|id| id >= IDENTITIES)
 }
 
 /// A command's place among the names.
@@ -154,6 +176,18 @@ fn not_committed(t: &Record, reference: &Reference) -> bool {
     let kernel = reference.kernel();
     let installed = |id: &usize| t.nodes[*id].phase == LOADING || t.nodes[*id].phase == ACTIVE;
     (0..t.nodes.len()).filter(installed).any(|id| kernel.target(id).is_some_and(|b| b != kernel.committed(id)))
+}
+
+/// The consumers and the providers of the dead links.
+fn in_dead_links(t: &Record) -> impl Iterator<Item = usize> + '_ {
+    let dead = t.links.iter().filter(|l| l.live == 0);
+    dead.flat_map(|l| [l.consumer as usize, l.binding.provider as usize])
+}
+
+/// The absent identities that have a parent, each with it.
+fn absent_children(t: &Record) -> impl Iterator<Item = (usize, usize)> + '_ {
+    let children = t.nodes.iter().enumerate().filter(|(_, n)| n.present == 0 && n.has_parent == 1);
+    children.map(|(id, n)| (id, n.parent as usize))
 }
 
 fn provides_twice(t: &Record) -> bool {

@@ -35,7 +35,7 @@ impl Sample<'_> {
             _ => IDENTITIES - 4 + self.random.below(5),
         };
         for id in 0..count {
-            let node = if self.random.chance(82) { self.present() } else { self.absent(id, count) };
+            let node = if self.random.chance(82) { self.present() } else { self.absent(id) };
             self.tables.nodes.push(node);
         }
         self.ranks = (0..count).collect();
@@ -45,16 +45,21 @@ impl Sample<'_> {
     fn present(&mut self) -> Node {
         let phase = [INACTIVE, ACTIVE, INACTIVE, LOADING, ACTIVE, UNLOADING][self.random.below(6)];
         let restoring = phase == UNLOADING && self.random.chance(40);
-        let above: Vec<u64> = (0..).zip(&self.tables.nodes).filter(|(_, n)| n.present == 1).map(|(id, _)| id).collect();
-        let parent = self.random.pick(&above).filter(|_| self.random.chance(40));
+        let parent = self.random.pick(&self.those(1)).filter(|_| self.random.chance(40));
         self.node(1, phase, restoring, parent)
     }
 
-    /// Nothing is asked of an absent node's parent, generation and retirement.
-    fn absent(&mut self, id: usize, count: usize) -> Node {
-        let any = [self.random.below(count) as u64, id as u64, IDENTITIES as u64, MOST];
-        let parent = self.random.pick(&any).filter(|_| self.random.chance(60));
+    /// Its parent is smaller, often by one, or is absent itself; nothing is asked of its generation and retirement.
+    fn absent(&mut self, id: usize) -> Node {
+        let smaller: Vec<u64> = (0..id as u64).collect();
+        let any = [self.random.pick(&smaller), smaller.last().copied(), self.random.pick(&self.those(0))];
+        let parent = any[self.random.below(any.len())].filter(|_| self.random.chance(75));
         self.node(0, INACTIVE, false, parent)
+    }
+
+    /// The present (1) or the absent (0) identities.
+    fn those(&self, present: u8) -> Vec<u64> {
+        (0..).zip(&self.tables.nodes).filter(|(_, n)| n.present == present).map(|(id, _)| id).collect()
     }
 
     fn node(&mut self, present: u8, phase: u8, restoring: bool, parent: Option<u64>) -> Node {
@@ -84,10 +89,7 @@ impl Sample<'_> {
 
     /// Present owners repeat their own ports; absent ones provide any.
     fn provisions(&mut self) {
-        let of = |tables: &Record, present: u8| -> Vec<u64> {
-            (0..).zip(&tables.nodes).filter(|(_, n)| n.present == present).map(|(id, _)| id).collect()
-        };
-        let (present, absent) = (of(&self.tables, 1), of(&self.tables, 0));
+        let (present, absent) = (self.those(1), self.those(0));
         for port in self.ports.clone() {
             let owner = self.random.pick(&present).filter(|_| self.random.chance(85));
             self.owners.push(owner);
@@ -169,11 +171,14 @@ impl Sample<'_> {
         }
     }
 
+    /// Any issued identity, often the last one or an absent one.
     fn identity(&mut self) -> u64 {
-        match self.random.below(20) {
-            0 => MOST,
-            1 => IDENTITIES as u64,
-            _ => self.random.below(self.tables.nodes.len() + 1) as u64,
+        let count = self.tables.nodes.len();
+        let any = self.random.below(count) as u64;
+        match self.random.below(10) {
+            0..=1 => count as u64 - 1,
+            2..=3 => self.random.pick(&self.those(0)).unwrap_or(any),
+            _ => any,
         }
     }
 

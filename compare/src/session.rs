@@ -23,8 +23,9 @@ pub fn play(start: &Record, random: &mut Random, lines: &mut Vec<Line>, met: &mu
     s.met.kernel(start, &s.reference);
     s.write(start);
     let (identities, ports) = (tried::identities(start, random), tried::ports(start, random));
-    s.observe(&identities, &ports);
-    for trial in tried::each(&identities, &ports, random) {
+    let far = tried::far(&identities);
+    s.observe(&identities, &far, &ports);
+    for trial in tried::each(&identities, &far, &ports, random) {
         if s.trial(&trial, true) {
             s.set("back".to_string());
             s.reference = Reference::of(start);
@@ -33,7 +34,7 @@ pub fn play(start: &Record, random: &mut Random, lines: &mut Vec<Line>, met: &mu
     for _ in 0..tried::WALK {
         s.trial(&tried::any(&identities, &ports, random), false);
     }
-    s.observe(&identities, &ports);
+    s.observe(&identities, &far, &ports);
     s.tables();
 }
 
@@ -63,30 +64,35 @@ impl Session<'_> {
         self.expect("tables".to_string(), format!("{sound}\n{}\n", text::tables(&now)));
     }
 
-    fn ask(&mut self, questions: Vec<Asked>) {
-        self.met.questions += questions.len() as u64;
+    /// Questions that name an identity, or none.
+    fn ask(&mut self, named: Option<usize>, questions: Vec<Asked>) {
+        self.met.asked(named, questions.len() as u64);
         questions.into_iter().for_each(|(line, answer)| self.expect(line, answer));
     }
 
     /// Every observer and check_iteration.
-    fn observe(&mut self, identities: &[usize], ports: &[Port]) {
+    fn observe(&mut self, identities: &[usize], far: &[usize], ports: &[Port]) {
         let sound = if sound(&self.reference.record(0, 0, None)) { "yes" } else { "no" };
-        self.ask(vec![("sound".to_string(), sound.to_string())]);
-        self.ask(asked::of_all(self.reference.kernel()));
-        for &id in identities {
-            self.ask(asked::of_identity(self.reference.kernel(), id));
-            self.target(id);
-            let own = self.reference.check_iteration(id);
-            self.met.answer(CHECK_ITERATION, &Step { answer: own, detail: 0, own, intended: None });
-            self.ask(vec![(format!("check_iteration {id}"), refusal(own))]);
-            for &port in ports {
-                self.ask(asked::of_declaration(self.reference.kernel(), id, port));
-            }
+        self.ask(None, vec![("sound".to_string(), sound.to_string())]);
+        self.ask(None, asked::of_all(self.reference.kernel()));
+        for &id in identities.iter().chain(far) {
+            self.observe_identity(id, ports);
         }
         for &port in ports {
             let answer = lookup::lookup(self.reference.kernel(), reference::port(port));
             self.met.lookups.resolve(answer);
-            self.ask(vec![asked::resolve(port, answer)]);
+            self.ask(None, vec![asked::resolve(port, answer)]);
+        }
+    }
+
+    fn observe_identity(&mut self, id: usize, ports: &[Port]) {
+        self.ask(Some(id), asked::of_identity(self.reference.kernel(), id));
+        self.target(id);
+        let own = self.reference.check_iteration(id);
+        self.met.answer(CHECK_ITERATION, &Step { answer: own, detail: 0, own, intended: None });
+        self.ask(Some(id), vec![(format!("check_iteration {id}"), refusal(own))]);
+        for &port in ports {
+            self.ask(Some(id), asked::of_declaration(self.reference.kernel(), id, port));
         }
     }
 
@@ -95,7 +101,7 @@ impl Session<'_> {
         let missing = lookup::missing(kernel, id);
         let asked = asked::target(kernel, id, missing);
         self.met.lookups.target(kernel.target(id).is_some(), missing);
-        self.ask(vec![asked]);
+        self.ask(Some(id), vec![asked]);
     }
 
     /// The lists that insert and configure take, and use up.
@@ -109,7 +115,7 @@ impl Session<'_> {
         let step = self.reference.check_insert(parent);
         self.met.answer(CHECK_INSERT, &step);
         let line = format!("check_insert {}", tried::parent(parent));
-        self.ask(vec![(line, hidden(&step).unwrap_or(refusal(step.answer)))]);
+        self.ask(parent, vec![(line, hidden(&step).unwrap_or(refusal(step.answer)))]);
     }
 
     /// Makes a call, an insert after check_insert if `check`; whether it changed the kernel. Where it did, the tables

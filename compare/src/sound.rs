@@ -1,4 +1,4 @@
-//! Whether tables are sound: the sizes, and the six points of docs/RULES.md.
+//! Whether tables are sound: the sizes, and the eight points of docs/RULES.md.
 use crate::record::{Link, Node, Record, INACTIVE, UNLOADING};
 use crate::sizes::{DECLARATIONS, IDENTITIES, LINKS};
 
@@ -12,6 +12,8 @@ pub fn sound(t: &Record) -> bool {
         && live(t).all(|(_, l)| link(t, l))
         && order(t)
         && covered(t)
+        && t.links.iter().filter(|l| l.live == 0).all(|l| dead_link(t, l))
+        && (0..t.nodes.len()).all(|id| absent_node(t, id))
 }
 
 fn present(t: &Record, id: u64) -> Option<&Node> {
@@ -66,4 +68,15 @@ fn covered(t: &Record) -> bool {
     let dependencies = t.declarations.iter().filter(|d| d.provides == 0);
     let needed = dependencies.filter(|d| present(t, d.owner).is_some_and(|n| n.phase != INACTIVE));
     needed.into_iter().all(|d| met(d.owner, d.key, d.realm))
+}
+
+/// Point 7: a dead link's consumer and provider are below the node count.
+fn dead_link(t: &Record, l: &Link) -> bool {
+    l.consumer.max(l.binding.provider) < t.nodes.len() as u64
+}
+
+/// Point 8: an absent node's parent is smaller than the node.
+fn absent_node(t: &Record, id: usize) -> bool {
+    let n = &t.nodes[id];
+    n.present == 1 || n.has_parent == 0 || n.parent < id as u64
 }

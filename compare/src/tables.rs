@@ -2,7 +2,7 @@
 use crate::log::Port;
 use crate::record::{Binding, Declaration, Link, Node, Record, INACTIVE, UNLOADING};
 
-/// The largest number: of a generation, and of an identity that no table has.
+/// The largest number: of a generation, and of a port's key.
 pub const MOST: u64 = u64::MAX;
 
 #[derive(Clone)]

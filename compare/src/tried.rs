@@ -59,7 +59,7 @@ impl List {
     }
 }
 
-/// The identities that are tried: all of a small kernel, else some; the next one; one that no kernel has.
+/// The identities that are tried: all of a small kernel, else some; the next one.
 pub fn identities(tables: &Record, random: &mut Random) -> Vec<usize> {
     let count = tables.nodes.len();
     let mut found: Vec<usize> = match count {
@@ -67,8 +67,13 @@ pub fn identities(tables: &Record, random: &mut Random) -> Vec<usize> {
         _ => [0, 1, 2].into_iter().chain((0..FEW - 4).map(|_| random.below(count))).chain([count - 1]).collect(),
     };
     found.push(count);
-    found.extend(random.pick(&[IDENTITIES, 255, 256, usize::MAX - 1, usize::MAX]));
     found
+}
+
+/// Identities that no kernel has: the first, the ends of a byte and of a word; 256 and 2^32 above each that is tried.
+pub fn far(identities: &[usize]) -> Vec<usize> {
+    let ends = [IDENTITIES, 255, usize::MAX - 1, usize::MAX];
+    ends.into_iter().chain(identities.iter().flat_map(|id| [256 + id, (1 << 32) + id])).collect()
 }
 
 /// Some of the ports that are declared, and one that is not.
@@ -85,10 +90,10 @@ pub fn ports(tables: &Record, random: &mut Random) -> Vec<Port> {
     found
 }
 
-/// Each command on each identity, with the ports, and with lists.
-pub fn each(identities: &[usize], ports: &[Port], random: &mut Random) -> Vec<Trial> {
+/// Each command on each identity, with the ports, and with lists; those of each length not on far identities.
+pub fn each(identities: &[usize], far: &[usize], ports: &[Port], random: &mut Random) -> Vec<Trial> {
     let mut calls = vec![Call::CompactBindings, Call::CompactDeclarations, Call::Insert(None), Call::Insert(None)];
-    for &id in identities {
+    for &id in identities.iter().chain(far) {
         calls.extend(of_identity(id));
         calls.extend(ports.iter().flat_map(|&p| [Call::Declare(id, p), Call::Release(id, p)]));
     }

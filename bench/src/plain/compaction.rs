@@ -15,7 +15,7 @@ impl Kernel {
         self.command(|k| {
             let nodes = &k.nodes;
             let kept =
-                retain(&mut k.declarations[..k.declaration_count], Declaration::BLANK, |d| nodes[d.owner].present);
+                retain(&mut k.declarations[..k.declaration_count], Declaration::BLANK, |d| nodes[d.owner()].present);
             let removed = k.declaration_count - kept;
             k.declaration_count = kept;
             Ok(removed)

@@ -6,13 +6,13 @@ impl Kernel {
         self.command(|k| {
             k.check_insert(parent, dependencies, provisions)?;
             let id = k.node_count;
-            k.nodes[id] = Node { present: true, parent, ..Node::BLANK };
+            k.nodes[id] = Node::new(parent);
             k.node_count += 1;
             for &port in dependencies.listed() {
-                k.append(Declaration { owner: id, port, provides: false });
+                k.append(Declaration::new(id, port, false));
             }
             for &port in provisions.listed() {
-                k.append(Declaration { owner: id, port, provides: true });
+                k.append(Declaration::new(id, port, true));
             }
             Ok(id)
         })

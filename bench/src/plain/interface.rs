@@ -23,7 +23,7 @@ impl Kernel {
             if k.declaration_count == DECLARATIONS {
                 return Err(Error::Capacity);
             }
-            k.append(Declaration { owner: id, port, provides: true });
+            k.append(Declaration::new(id, port, true));
             Ok(())
         })
     }
@@ -33,10 +33,10 @@ impl Kernel {
             if !k.contains(id) {
                 return Err(Error::Unknown);
             }
-            if k.links().iter().any(|l| l.live && l.binding.provider == id && l.binding.port == port) {
+            if k.links().iter().any(|l| l.live && l.provider() == id && l.port == port) {
                 return Err(Error::Relied);
             }
-            k.keep_declarations(|d| !(d.provides && d.owner == id && d.port == port));
+            k.keep_declarations(|d| !(d.provides && d.owner() == id && d.port == port));
             Ok(())
         })
     }
@@ -53,7 +53,7 @@ impl Kernel {
             if node.phase != Phase::Inactive || node.generation != 0 {
                 return Err(Error::InvalidState);
             }
-            let remains = |d: &Declaration| d.provides || d.owner != id;
+            let remains = |d: &Declaration| d.provides || d.owner() != id;
             if DECLARATIONS < k.declarations().iter().filter(|d| remains(d)).count() + dependencies.count {
                 return Err(Error::Capacity);
             }
@@ -62,7 +62,7 @@ impl Kernel {
             }
             k.keep_declarations(remains);
             for &port in dependencies.listed() {
-                k.append(Declaration { owner: id, port, provides: false });
+                k.append(Declaration::new(id, port, false));
             }
             Ok(())
         })
@@ -70,8 +70,8 @@ impl Kernel {
 
     /// The present owner that provides the port.
     pub fn provider(&self, port: Port) -> Option<usize> {
-        let provision = self.declarations().iter().find(|d| d.provides && d.port == port && self.contains(d.owner));
-        provision.map(|d| d.owner)
+        let provision = self.declarations().iter().find(|d| d.provides && d.port == port && self.contains(d.owner()));
+        provision.map(Declaration::owner)
     }
 
     pub fn append(&mut self, declaration: Declaration) {

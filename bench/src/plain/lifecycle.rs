@@ -19,7 +19,7 @@ impl Kernel {
                 return Err(Error::Capacity);
             }
             for &binding in &target.bindings[..target.count] {
-                k.links[k.link_count] = Link { consumer: id, binding, live: true };
+                k.links[k.link_count] = Link::new(id, binding);
                 k.link_count += 1;
             }
             let node = &mut k.nodes[id];
@@ -79,7 +79,7 @@ impl Kernel {
             if node.phase != Phase::Unloading || node.restoring {
                 return Err(Error::InvalidState);
             }
-            if k.links().iter().any(|l| l.live && l.binding.provider == id) {
+            if k.links().iter().any(|l| l.live && l.provider() == id) {
                 return Err(Error::Relied);
             }
             k.nodes[id].restoring = true;
@@ -95,7 +95,7 @@ impl Kernel {
             }
             node.phase = Phase::Inactive;
             node.restoring = false;
-            for link in k.links[..k.link_count].iter_mut().filter(|l| l.consumer == id) {
+            for link in k.links[..k.link_count].iter_mut().filter(|l| l.consumer() == id) {
                 link.live = false;
             }
             Ok(())
@@ -108,7 +108,7 @@ impl Kernel {
             if !node.retired || node.phase != Phase::Inactive {
                 return Err(Error::InvalidState);
             }
-            if k.nodes().iter().any(|n| n.present && n.parent == Some(id)) {
+            if k.nodes().iter().any(|n| n.present && n.parent() == Some(id)) {
                 return Err(Error::Children);
             }
             k.nodes[id].present = false;

@@ -1,4 +1,4 @@
-//! The kernel's records.
+//! The kernel's records. They store an identity in one byte; functions take and give it as a usize.
 
 pub const NODES: usize = 64;
 pub const DECLARATIONS: usize = 256;
@@ -39,18 +39,18 @@ pub struct Node {
     pub retired: bool,
     pub phase: Phase,
     pub restoring: bool,
-    pub parent: Option<usize>,
+    parent: Option<u8>,
     pub generation: u64,
 }
 
 #[derive(Clone, Copy, PartialEq, Eq)]
 pub struct Declaration {
-    pub owner: usize,
     pub port: Port,
+    owner: u8,
     pub provides: bool,
 }
 
-#[derive(Clone, Copy, PartialEq, Eq)]
+#[derive(Clone, Copy)]
 pub struct Binding {
     pub port: Port,
     pub provider: usize,
@@ -58,8 +58,9 @@ pub struct Binding {
 
 #[derive(Clone, Copy, PartialEq, Eq)]
 pub struct Link {
-    pub consumer: usize,
-    pub binding: Binding,
+    pub port: Port,
+    consumer: u8,
+    provider: u8,
     pub live: bool,
 }
 
@@ -83,11 +84,30 @@ pub struct Outcome<T> {
     pub answer: Result<T, Error>,
 }
 
+const _: () = assert!(size_of::<Node>() == 16);
+const _: () = assert!(size_of::<Declaration>() == 24);
+const _: () = assert!(size_of::<Link>() == 24);
+const _: () = assert!(size_of::<Kernel>() == 19_480);
+
 const BLANK_PORT: Port = Port { key: 0, realm: 0 };
+
+/// An issued identity as records store it.
+fn stored(id: usize) -> u8 {
+    id.try_into().expect("an issued identity is below 64")
+}
 
 impl Node {
     pub const BLANK: Node =
         Node { present: false, retired: false, phase: Phase::Inactive, restoring: false, parent: None, generation: 0 };
+
+    /// A present node that never began.
+    pub fn new(parent: Option<usize>) -> Node {
+        Node { present: true, parent: parent.map(stored), ..Node::BLANK }
+    }
+
+    pub fn parent(&self) -> Option<usize> {
+        self.parent.map(usize::from)
+    }
 
     pub fn installed(&self) -> bool {
         self.present && self.phase != Phase::Inactive
@@ -95,7 +115,15 @@ impl Node {
 }
 
 impl Declaration {
-    pub const BLANK: Declaration = Declaration { owner: 0, port: BLANK_PORT, provides: false };
+    pub const BLANK: Declaration = Declaration { port: BLANK_PORT, owner: 0, provides: false };
+
+    pub fn new(owner: usize, port: Port, provides: bool) -> Declaration {
+        Declaration { port, owner: stored(owner), provides }
+    }
+
+    pub fn owner(&self) -> usize {
+        self.owner.into()
+    }
 }
 
 impl Binding {
@@ -103,7 +131,20 @@ impl Binding {
 }
 
 impl Link {
-    pub const BLANK: Link = Link { consumer: 0, binding: Binding::BLANK, live: false };
+    pub const BLANK: Link = Link { port: BLANK_PORT, consumer: 0, provider: 0, live: false };
+
+    /// A live link.
+    pub fn new(consumer: usize, binding: Binding) -> Link {
+        Link { port: binding.port, consumer: stored(consumer), provider: stored(binding.provider), live: true }
+    }
+
+    pub fn consumer(&self) -> usize {
+        self.consumer.into()
+    }
+
+    pub fn provider(&self) -> usize {
+        self.provider.into()
+    }
 }
 
 impl PortList {

@@ -1,5 +1,5 @@
 //! resolve and target.
-use super::records::{Binding, Kernel, Phase, Port, DECLARATIONS};
+use super::records::{Binding, Declaration, Kernel, Phase, Port, DECLARATIONS};
 
 /// A binding for each dependency, in declaration order.
 pub struct Target {
@@ -13,8 +13,8 @@ impl Kernel {
         let provider = self
             .declarations()
             .iter()
-            .find(|d| d.provides && d.port == port && self.node(d.owner).is_some_and(|n| n.phase == Phase::Active));
-        provider.map(|d| d.owner)
+            .find(|d| d.provides && d.port == port && self.node(d.owner()).is_some_and(|n| n.phase == Phase::Active));
+        provider.map(Declaration::owner)
     }
 
     pub fn target(&self, id: usize) -> Option<Target> {
@@ -22,7 +22,7 @@ impl Kernel {
             return None;
         }
         let mut target = Target { bindings: [Binding::BLANK; DECLARATIONS], count: 0 };
-        for d in self.declarations().iter().filter(|d| d.owner == id && !d.provides) {
+        for d in self.declarations().iter().filter(|d| d.owner() == id && !d.provides) {
             target.bindings[target.count] = Binding { port: d.port, provider: self.resolve(d.port)? };
             target.count += 1;
         }

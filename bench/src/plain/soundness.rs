@@ -11,6 +11,7 @@ impl Kernel {
             && self.live_links_declared()
             && self.live_links_ordered()
             && self.dependencies_linked()
+            && self.dead_links_issued()
     }
 
     fn counts_within_sizes(&self) -> bool {
@@ -24,17 +25,17 @@ impl Kernel {
     }
 
     fn owners_issued(&self) -> bool {
-        self.declarations().iter().all(|d| d.owner < self.node_count)
+        self.declarations().iter().all(|d| d.owner() < self.node_count)
     }
 
     fn one_owner_for_each_provision(&self) -> bool {
-        let provides = |d: &Declaration| d.provides && self.contains(d.owner);
+        let provides = |d: &Declaration| d.provides && self.contains(d.owner());
         for (i, a) in self.declarations().iter().enumerate() {
             if !provides(a) {
                 continue;
             }
             for b in &self.declarations()[..i] {
-                if a.port == b.port && a.owner != b.owner && provides(b) {
+                if a.port == b.port && a.owner() != b.owner() && provides(b) {
                     return false;
                 }
             }
@@ -44,22 +45,20 @@ impl Kernel {
 
     fn nodes_consistent(&self) -> bool {
         self.nodes().iter().enumerate().all(|(id, n)| {
-            if !n.present {
-                return n.phase == Phase::Inactive && !n.restoring;
-            }
-            let restoring_ok = !n.restoring || n.phase == Phase::Unloading;
-            restoring_ok && n.parent.is_none_or(|p| p < id && self.contains(p))
+            let parent_ok = n.parent().is_none_or(|p| p < id && (!n.present || self.contains(p)));
+            let restoring_ok = !n.restoring || n.present && n.phase == Phase::Unloading;
+            parent_ok && restoring_ok && (n.present || n.phase == Phase::Inactive)
         })
     }
 
     fn live_links_declared(&self) -> bool {
         self.live_links().all(|l| {
-            let consumer_ok = self.node(l.consumer).is_some_and(|n| n.installed());
-            let provider_ok = self.node(l.binding.provider).is_some_and(|n| n.installed() && !n.restoring);
+            let consumer_ok = self.node(l.consumer()).is_some_and(|n| n.installed());
+            let provider_ok = self.node(l.provider()).is_some_and(|n| n.installed() && !n.restoring);
             consumer_ok
                 && provider_ok
-                && self.declares(l.consumer, l.binding.port, false)
-                && self.declares(l.binding.provider, l.binding.port, true)
+                && self.declares(l.consumer(), l.port, false)
+                && self.declares(l.provider(), l.port, true)
         })
     }
 
@@ -70,7 +69,7 @@ impl Kernel {
                 continue;
             }
             for b in &self.links()[i..] {
-                if b.live && b.consumer == a.binding.provider {
+                if b.live && b.consumer() == a.provider() {
                     return false;
                 }
             }
@@ -82,9 +81,14 @@ impl Kernel {
     fn dependencies_linked(&self) -> bool {
         self.declarations().iter().all(|d| {
             d.provides
-                || !self.nodes[d.owner].installed()
-                || self.live_links().any(|l| l.consumer == d.owner && l.binding.port == d.port)
+                || !self.nodes[d.owner()].installed()
+                || self.live_links().any(|l| l.consumer() == d.owner() && l.port == d.port)
         })
+    }
+
+    /// A dead link's consumer and provider are issued.
+    fn dead_links_issued(&self) -> bool {
+        self.links().iter().all(|l| l.live || l.consumer() < self.node_count && l.provider() < self.node_count)
     }
 
     fn live_links(&self) -> impl Iterator<Item = &Link> {
@@ -92,6 +96,6 @@ impl Kernel {
     }
 
     pub fn declares(&self, owner: usize, port: Port, provides: bool) -> bool {
-        self.declarations().iter().any(|d| d.owner == owner && d.port == port && d.provides == provides)
+        self.declarations().iter().any(|d| d.owner() == owner && d.port == port && d.provides == provides)
     }
 }

@@ -4,4 +4,5 @@ pub mod Outcomes
 pub mod Observers
 pub mod Rows
 pub mod Targets
+pub mod Stored
 pub mod Edits

@@ -1,12 +1,12 @@
 // Declarations for the ports of a list.
 ghost use mathlib.Core.Path.{_≡_};
 ghost use mathlib.Core.List.{_++_, map};
-ghost use Prim.Native.Nat.{_+_, _≤_};
+ghost use Prim.Native.Nat.{_+_, _<_, _≤_};
 ghost use lib.ListN.{take};
 ghost use Rattle.model.specs.Interface.{listed};
 ghost use Rattle.model.specs.Lists.{padded};
 ghost use Rattle.model.specs.Records.{blankDeclaration, declarationOf};
-ghost use Rattle.sizes.specs.Sizes.{DECLARATIONS};
+ghost use Rattle.sizes.specs.Sizes.{DECLARATIONS, IDENTITIES};
 use model::Declaration;
 use model::PortList;
 use sizes::DECLARATIONS;
@@ -19,7 +19,7 @@ pub(crate) fn append_ports(
     list: PortList,
     provides: bool,
 ) -> [Declaration; DECLARATIONS]
-    requires { ⌜ (list .count ≤ 32) × (count ≤ DECLARATIONS) × (declarations ≡ padded DECLARATIONS blankDeclaration (take count declarations)) ⌝ }
+    requires { ⌜ (owner < IDENTITIES) × (list .count ≤ 32) × (count ≤ DECLARATIONS) × (declarations ≡ padded DECLARATIONS blankDeclaration (take count declarations)) ⌝ }
     ensures { λ r. ⌜ (count + list .count ≤ DECLARATIONS → r ≡ padded DECLARATIONS blankDeclaration (take count declarations ++ map (declarationOf owner provides) (listed list))) ⌝ }
 {
     let end = loops::at_most(list.count, DECLARATIONS - count);

@@ -7,6 +7,7 @@ pub mod Flags
 pub mod Filled
 pub mod Resolving
 pub mod Marking
+pub mod Passes
 pub mod Distinct
 pub mod Parents
 pub mod Chains

@@ -3,3 +3,4 @@ pub mod Counted
 pub mod Limits
 pub mod Chains
 pub mod Marks
+pub mod Passes

@@ -1,4 +1,4 @@
--- Soundness as docs/RULES.md words it, over places: the six points of the tables, and the counts and blanks of a kernel. Theorems/Points.antt: they are the tests `wf` and `soundKernel`.
+-- Soundness as docs/RULES.md words it, over places: the eight points of the tables, and the counts and blanks of a kernel. Theorems/Points.antt: they are the tests `eightPoints` and `soundKernel`; by them every stored identity was issued.
 use mathlib.Core.Path.{_≡_}
 use mathlib.Core.Bool.{false, true}
 use mathlib.Core.List.{List}
@@ -61,6 +61,16 @@ pub record Points (T : Tables) : Type 0 where
   pub order : (i j : ℕ) (l m : Link) → At (T .links) i l → At (T .links) j m → l .live ≡ true → m .live ≡ true → providerIn l ≡ consumerIn m → j < i
   -- each dependency of a present node that isn't Inactive has a live link of that consumer with that port
   pub covered : (i : ℕ) (d : Declaration) → At (T .declarations) i d → d .provides ≡ false → Installed T (ownerIn d) → Met T d
+  -- a dead link's consumer and provider are below the node count
+  pub dead : (i : ℕ) (l : Link) → At (T .links) i l → l .live ≡ false → (consumerIn l < length (T .nodes)) × (providerIn l < length (T .nodes))
+  -- an absent node's parent, if any, is smaller than the node
+  pub absent-parents : (i p : ℕ) (n : Node) → At (T .nodes) i n → n .present ≡ false → parentIn n ≡ Parent.Of p → p < i
+
+-- every identity that is stored was issued, and a node's parent before the node
+pub record Issued (T : Tables) : Type 0 where
+  pub owners : (i : ℕ) (d : Declaration) → At (T .declarations) i d → ownerIn d < length (T .nodes)
+  pub ends : (i : ℕ) (l : Link) → At (T .links) i l → (consumerIn l < length (T .nodes)) × (providerIn l < length (T .nodes))
+  pub parents : (i p : ℕ) (n : Node) → At (T .nodes) i n → parentIn n ≡ Parent.Of p → p < i
 
 -- the tables are within the sizes
 abbrev pub Within : Sizes → Tables → Type 0
@@ -70,7 +80,7 @@ Within S T = (length (T .nodes) ≤ S .identities) × (length (T .declarations) 
 abbrev pub BlankPast : {A : Type 0} → A → ℕ → List A → Type 0
 BlankPast {A} blank count xs = (i : ℕ) (x : A) → At xs i x → count ≤ i → x ≡ blank
 
--- a kernel: counts within the sizes, blanks past them, and the six points of its tables
+-- a kernel: counts within the sizes, blanks past them, and the eight points of its tables
 pub record KernelPoints (S : Sizes) (k : Layout) : Type 0 where
   pub nodes : k .nodeCount ≤ S .identities
   pub declarations : k .declarationCount ≤ S .declarations

@@ -1,10 +1,10 @@
 -- One record or one enum: tests on it, its blank value, and a node written anew for each transition.
 -- Only this file and the laws about it (Laws/Records, Laws/Blanks) name the fields of Node, Declaration and Link, or make one; other files use the
 -- readers and makers here, and name only fields that are a yes/no, a phase or a generation.
-use mathlib.Core.Bool.{Bool, _&&_, _||_, false, not, true}
+use mathlib.Core.Bool.{Bool, _&&_, _||_, cond, false, not, true}
 use mathlib.Core.List.{List, [], _∷_}
 use Prim.Native.Nat.{ℕ}
-use lib.Dec.{eqb}
+use lib.Dec.{eqb, ltb}
 use Rattle.model.specs.declared.Binding.{Binding}
 use Rattle.model.specs.declared.records.Declaration.{Declaration}
 use Rattle.model.specs.declared.records.Link.{Link}
@@ -72,6 +72,19 @@ blankPort = record { key = 0; realm = 0 }
 abbrev pub blankBinding : Binding
 blankBinding = record { key = 0; realm = 0; provider = 0 }
 
+-- ---- identities in one byte
+
+-- below 256 a byte holds the identity itself; any other number, which no kernel issues, becomes 255, which none issues either
+abbrev pub byteOf : ℕ → ℕ
+byteOf id = cond (ltb id 256) id 255
+
+abbrev pub byteParent : Parent → Parent
+byteParent Parent.None = Parent.None
+byteParent (Parent.Of p) = Parent.Of (byteOf p)
+
+abbrev pub byteBinding : Binding → Binding
+byteBinding b = bindingOf (portOf b) (byteOf (b .provider))
+
 -- ---- the stored records, read
 
 -- a parent as a node stores it, and as callers see it
@@ -118,7 +131,7 @@ newNode p = nodeOf true false Phase.Inactive p 0
 
 -- a provision or a dependency
 abbrev pub declarationOf : ℕ → Bool → Port → Declaration
-declarationOf o provides p = record { owner = o; port = p; provides = provides }
+declarationOf o provides p = record { port = p; owner = o; provides = provides }
 
 abbrev pub dependency : ℕ → Port → Declaration
 dependency o p = declarationOf o false p

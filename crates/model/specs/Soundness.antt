@@ -1,4 +1,4 @@
--- Soundness of the tables: the rules' six points (wf of lib.rs), and the sizes.
+-- Soundness of the tables: the rules' eight points, six of them wf of lib.rs, and the sizes.
 use mathlib.Core.Bool.{Bool, Bool·beq, _&&_, false, not, true}
 use mathlib.Core.List.{List, [], _∷_}
 use Prim.Native.Nat.{ℕ}
@@ -72,6 +72,23 @@ needTests installs d = not (d .provides) ∷ installs (ownerIn d) ∷ []
 unfoldable pub isCovered : (ℕ → Bool) → List Link → Declaration → Bool
 isCovered installs ls d = conj (needTests installs d) ⇒ any (linksTo (ownerIn d) (declaredPort d)) ls
 
+-- ---- 7: a dead link's consumer and provider are below the node count
+
+abbrev pub endTests : ℕ → Link → List Bool
+endTests count l = ltb (consumerIn l) count ∷ ltb (providerIn l) count ∷ []
+
+unfoldable pub deadOk : ℕ → Link → Bool
+deadOk count l = not (l .live) ⇒ conj (endTests count l)
+
+-- ---- 8: an absent node's parent, if any, is smaller than the node
+
+abbrev pub smaller : ℕ → Parent → Bool
+smaller id Parent.None = true
+smaller id (Parent.Of p) = ltb p id
+
+unfoldable pub absentOk : ℕ → Node → Bool
+absentOk id n = not (n .present) ⇒ smaller id (parentIn n)
+
 -- ---- the whole
 
 -- the first five points, as lib.rs groups them
@@ -87,8 +104,19 @@ safetyWf T = conj (safetyTests T)
 unfoldable pub coverage : Tables → Bool
 coverage T = all (isCovered (installed (T .nodes)) (T .links)) (T .declarations)
 
+-- the six points of lib.rs
 unfoldable pub wf : Tables → Bool
 wf T = safetyWf T && coverage T
+
+-- the last two, so that every identity that a table stores fits a byte
+abbrev pub storedTests : Tables → List Bool
+storedTests T = all (deadOk (length (T .nodes))) (T .links) ∷ allAt absentOk 0 (T .nodes) ∷ []
+
+unfoldable pub storedWf : Tables → Bool
+storedWf T = conj (storedTests T)
+
+unfoldable pub eightPoints : Tables → Bool
+eightPoints T = wf T && storedWf T
 
 abbrev pub sizeTests : Sizes → Tables → List Bool
 sizeTests S T = leb (length (T .nodes)) (S .identities) ∷ leb (length (T .declarations)) (S .declarations) ∷ leb (length (T .links)) (S .links) ∷ []
@@ -97,4 +125,4 @@ unfoldable pub fits : Sizes → Tables → Bool
 fits S T = conj (sizeTests S T)
 
 unfoldable pub sound : Sizes → Tables → Bool
-sound S T = fits S T && wf T
+sound S T = fits S T && eightPoints T

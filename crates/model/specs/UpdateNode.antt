@@ -1,4 +1,4 @@
--- update_node: not public. It writes one node anew if the tables allow it, and keeps soundness without the last point.
+-- update_node: not public. It writes one node anew if the tables allow it, and keeps soundness without point 6, and points 7 and 8 of a new node that has point 8.
 use mathlib.Core.Bool.{Bool, _&&_, _||_, not}
 use mathlib.Core.List.{List, [], _++_, _∷_}
 use Prim.Native.Nat.{ℕ}

@@ -1,11 +1,12 @@
-// The stored records. How they are read, made and tested is said in specs/Records, and done by the crate records.
+// The stored records: an identity takes one byte, and the fields stand so that none is wasted between them. How they are read, made and tested is said in
+// specs/Records, and done by the crate records; callers pass and receive identities at full width.
 use crate::Phase;
 use crate::Port;
 
 // A parent as a node stores it.
 pub enum StoredParent {
     None,
-    Of(usize),
+    Of(u8),
 }
 
 pub struct Node {
@@ -19,15 +20,15 @@ pub struct Node {
 
 // provides: yes for a provision, no for a dependency.
 pub struct Declaration {
-    pub owner: usize,
     pub port: Port,
+    pub owner: u8,
     pub provides: bool,
 }
 
 pub struct Link {
     pub key: u64,
     pub realm: u64,
-    pub consumer: usize,
-    pub provider: usize,
+    pub consumer: u8,
+    pub provider: u8,
     pub live: bool,
 }

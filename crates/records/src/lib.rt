@@ -42,7 +42,6 @@ pub use stored::parent_in;
 pub use stored::port_in;
 pub use stored::provider_in;
 pub use stored::provision;
-pub use stored::stored_parent;
 pub use stored::with_phase;
 pub use tests::has_parent;
 pub use tests::is_child_of;

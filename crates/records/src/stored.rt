@@ -1,7 +1,7 @@
-// The stored records: read, made and tested for blanks here, so that how they are stored is said in one place.
+// The stored records: read, made and tested for blanks here, so that how they are stored is said in one place. An identity takes one byte; only this file knows it.
 ghost use mathlib.Core.Path.{_≡_};
 ghost use mathlib.Core.Bool.{_&&_};
-ghost use Rattle.model.specs.Records.{bindingIn, blankDeclaration, blankLink, blankNode, consumerIn, deadFor, declarationOf, declaredPort, isBlankDeclaration, isBlankLink, isBlankNode, liveLink, newNode, ownerIn, parentIn, portIn, providerIn, provision, storedParent, withPhase};
+ghost use Rattle.model.specs.Records.{bindingIn, blankDeclaration, blankLink, blankNode, byteBinding, byteOf, byteParent, consumerIn, deadFor, declarationOf, declaredPort, isBlankDeclaration, isBlankLink, isBlankNode, liveLink, newNode, ownerIn, parentIn, portIn, providerIn, provision, storedParent, withPhase};
 use model::Binding;
 use model::Declaration;
 use model::Link;
@@ -11,12 +11,19 @@ use model::Phase;
 use model::Port;
 use model::StoredParent;
 
-pub fn stored_parent(parent: Parent) -> StoredParent
-    ensures { λ r. ⌜ r ≡ storedParent parent ⌝ }
+// An identity in one byte: itself below 256, and 255, which is never issued, for any other number.
+fn byte_of(id: usize) -> u8
+    ensures { λ r. ⌜ r ≡ byteOf id ⌝ }
+{
+    if id < 256 { id as u8 } else { 255 }
+}
+
+fn stored_parent(parent: Parent) -> StoredParent
+    ensures { λ r. ⌜ r ≡ storedParent (byteParent parent) ⌝ }
 {
     match parent {
         Parent::None => StoredParent::None,
-        Parent::Of(p) => StoredParent::Of(p),
+        Parent::Of(p) => StoredParent::Of(byte_of(p)),
     }
 }
 
@@ -26,14 +33,14 @@ pub fn parent_in(node: Node) -> Parent
     let stored = node.parent;
     match stored {
         StoredParent::None => Parent::None,
-        StoredParent::Of(p) => Parent::Of(p),
+        StoredParent::Of(p) => Parent::Of(p as usize),
     }
 }
 
 pub fn owner_in(declaration: Declaration) -> usize
     ensures { λ r. ⌜ r ≡ ownerIn declaration ⌝ }
 {
-    declaration.owner
+    declaration.owner as usize
 }
 
 pub fn declared_port(declaration: Declaration) -> Port
@@ -45,13 +52,13 @@ pub fn declared_port(declaration: Declaration) -> Port
 pub fn consumer_in(link: Link) -> usize
     ensures { λ r. ⌜ r ≡ consumerIn link ⌝ }
 {
-    link.consumer
+    link.consumer as usize
 }
 
 pub fn provider_in(link: Link) -> usize
     ensures { λ r. ⌜ r ≡ providerIn link ⌝ }
 {
-    link.provider
+    link.provider as usize
 }
 
 pub fn port_in(link: Link) -> Port
@@ -69,12 +76,12 @@ pub fn binding_in(link: Link) -> Binding
     Binding {
         key: link.key,
         realm: link.realm,
-        provider: link.provider,
+        provider: link.provider as usize,
     }
 }
 
 pub fn new_node(parent: Parent) -> Node
-    ensures { λ r. ⌜ r ≡ newNode parent ⌝ }
+    ensures { λ r. ⌜ r ≡ newNode (byteParent parent) ⌝ }
 {
     let stored = stored_parent(parent);
     Node {
@@ -103,29 +110,29 @@ pub fn with_phase(phase: Phase, node: Node) -> Node
 
 // A provision or a dependency.
 pub fn declaration_of(owner: usize, provides: bool, port: Port) -> Declaration
-    ensures { λ r. ⌜ r ≡ declarationOf owner provides port ⌝ }
+    ensures { λ r. ⌜ r ≡ declarationOf (byteOf owner) provides port ⌝ }
 {
     Declaration {
-        owner: owner,
         port: port,
+        owner: byte_of(owner),
         provides: provides,
     }
 }
 
 pub fn provision(owner: usize, port: Port) -> Declaration
-    ensures { λ r. ⌜ r ≡ provision owner port ⌝ }
+    ensures { λ r. ⌜ r ≡ provision (byteOf owner) port ⌝ }
 {
     declaration_of(owner, true, port)
 }
 
 pub fn live_link(consumer: usize, binding: Binding) -> Link
-    ensures { λ r. ⌜ r ≡ liveLink consumer binding ⌝ }
+    ensures { λ r. ⌜ r ≡ liveLink (byteOf consumer) (byteBinding binding) ⌝ }
 {
     Link {
         key: binding.key,
         realm: binding.realm,
-        consumer: consumer,
-        provider: binding.provider,
+        consumer: byte_of(consumer),
+        provider: byte_of(binding.provider),
         live: true,
     }
 }
@@ -134,7 +141,8 @@ pub fn live_link(consumer: usize, binding: Binding) -> Link
 pub fn dead_for(consumer: usize, mut link: Link) -> Link
     ensures { λ r. ⌜ r ≡ deadFor consumer link ⌝ }
 {
-    link.live = link.live & !(link.consumer == consumer);
+    let own = consumer_in(link) == consumer;
+    link.live = link.live & !own;
     link
 }
 
@@ -155,8 +163,8 @@ pub fn blank_declaration() -> Declaration
     ensures { λ r. ⌜ r ≡ blankDeclaration ⌝ }
 {
     Declaration {
-        owner: 0,
         port: Port { key: 0, realm: 0 },
+        owner: 0,
         provides: false,
     }
 }
@@ -204,11 +212,11 @@ pub fn either_declaration(a: Declaration, b: Declaration) -> Declaration
     let p = a.port;
     let q = b.port;
     Declaration {
-        owner: a.owner | b.owner,
         port: Port {
             key: p.key | q.key,
             realm: p.realm | q.realm,
         },
+        owner: a.owner | b.owner,
         provides: a.provides | b.provides,
     }
 }

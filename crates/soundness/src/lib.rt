@@ -73,6 +73,7 @@ pub fn tables_sound(
         &realm,
         &provides,
         d,
+        n,
         &installed,
         &serving,
         &mut met,

@@ -5,14 +5,14 @@ ghost use mathlib.Core.List.{map};
 ghost use lib.ListN.{replicate, take, drop};
 ghost use Rattle.model.specs.Lists.{all, allAt};
 ghost use Rattle.model.specs.Records.{isBlankNode, isInstalled, isServing};
-ghost use Rattle.model.specs.Soundness.{nodeOk};
+ghost use Rattle.loops.specs.Passes.{nodePasses};
 ghost use Rattle.sizes.specs.Sizes.{IDENTITIES};
 use loops::at_most;
 use model::Node;
 use model::Parent;
 use sizes::IDENTITIES;
 
-// Whether each node below the count is consistent, and a present one's parent present and smaller, and the nodes past it are blank.
+// Whether each node below the count is consistent, its parent smaller and a present one's parent present, and the nodes past it are blank.
 // Where so, it has written which nodes are present, installed and serving: a blank one is none of them.
 pub(crate) fn nodes_ok(
     nodes: [Node; IDENTITIES],
@@ -23,7 +23,7 @@ pub(crate) fn nodes_ok(
 ) -> bool
     requires { ⌜ (now present ≡ replicate IDENTITIES false) × (now installed ≡ replicate IDENTITIES false) × (now serving ≡ replicate IDENTITIES false) ⌝ }
     ensures { λ r. ⌜
-        (r ≡ allAt (nodeOk (take count nodes)) 0 (take count nodes) && all isBlankNode (drop count nodes))
+        (r ≡ allAt (nodePasses (take count nodes)) 0 (take count nodes) && all isBlankNode (drop count nodes))
         × (r ≡ true → (now (present .exit) ≡ map (λ n. n .present) nodes)
         × (now (installed .exit) ≡ map isInstalled nodes) × (now (serving .exit) ≡ map isServing nodes))
         ⌝ }
@@ -35,16 +35,14 @@ pub(crate) fn nodes_ok(
         if !records::is_consistent(node) {
             return false;
         }
-        if node.present {
-            let parent = records::parent_in(node);
-            if let Parent::Of(p) = parent {
-                if i <= p {
-                    return false;
-                }
-                let above = nodes[p];
-                if !above.present {
-                    return false;
-                }
+        let parent = records::parent_in(node);
+        if let Parent::Of(p) = parent {
+            if i <= p {
+                return false;
+            }
+            let above = nodes[p];
+            if node.present & !above.present {
+                return false;
             }
         }
         present[i] = node.present;

@@ -6,9 +6,10 @@ ghost use Prim.Native.Nat.{ℕ, _<_};
 ghost use lib.ListN.{length, take, drop, getD, replicate};
 ghost use Rattle.model.specs.Lists.{all, any};
 ghost use Rattle.model.specs.Records.{isBlankLink};
-ghost use Rattle.model.specs.Soundness.{hasOwner, sameOwner, isDeclaration, linkOk, ordered};
+ghost use Rattle.model.specs.Soundness.{hasOwner, sameOwner, isDeclaration, ordered};
 ghost use Rattle.loops.specs.Columns.{declarationAt, declarationsOf, flag};
 ghost use Rattle.loops.specs.Marks.{meets, marked, unmarked};
+ghost use Rattle.loops.specs.Passes.{linkPasses};
 ghost use Rattle.loops.specs.Chains.{bucketAt, Chained};
 ghost use Rattle.sizes.specs.Sizes.{DECLARATIONS, IDENTITIES};
 use crate::chains::chain_declarations;
@@ -16,7 +17,6 @@ use crate::chains::chain_ports;
 use loops::BUCKETS;
 use loops::at_most;
 use loops::bucket_of;
-use model::Declaration;
 use model::Link;
 use model::Port;
 use scans::flag_at;
@@ -39,7 +39,7 @@ pub(crate) fn owners_issued(owner: &[usize; DECLARATIONS], count: usize, issued:
     true
 }
 
-// Whether this declaration and each of the columns, if both are provisions of one port by present owners, have one owner: only its port's chain is read.
+// Whether the declaration at this place and each of the columns, if both are provisions of one port by present owners, have one owner: only its port's chain is read.
 fn one_provider(
     owner: &[usize; DECLARATIONS],
     key: &[u64; DECLARATIONS],
@@ -49,28 +49,29 @@ fn one_provider(
     count: usize,
     first: &[usize; BUCKETS],
     next: &[usize; DECLARATIONS],
-    d: Declaration,
+    place: usize,
 ) -> bool
-    requires { ⌜ Chained (bucketAt [] (now key) (now realm)) DECLARATIONS count (now first) (now next) ⌝ }
+    requires { ⌜ Chained (bucketAt [] (now key) (now realm)) DECLARATIONS count (now first) (now next) × (place < DECLARATIONS) ⌝ }
     ensures { λ r. ⌜
-        r ≡ all (sameOwner (flag IDENTITIES (now (present .entry))) d)
+        r ≡ all (sameOwner (flag IDENTITIES (now (present .entry))) (declarationAt (now (owner .entry)) (now (key .entry)) (now (realm .entry)) (now (provides .entry)) place))
         (take count (declarationsOf DECLARATIONS (now (owner .entry)) (now (key .entry)) (now (realm .entry)) (now (provides .entry))))
         ⌝ }
 {
-    let port = records::declared_port(d);
-    let o = records::owner_in(d);
+    let o = owner[place];
     let here = flag_at(present, o);
-    if !(d.provides & here) {
+    if !(provides[place] & here) {
         return true;
     }
-    let b = bucket_of(0, port.key, port.realm);
+    let k = key[place];
+    let r = realm[place];
+    let b = bucket_of(0, k, r);
     let mut c = first[b];
     while 0 < c {
         let i = c - 1;
         let e = owner[i];
         let also = flag_at(present, e);
-        let same = (port.key == key[i]) & (port.realm == realm[i]);
-        let rivals = d.provides & provides[i] & here & also & same;
+        let same = (k == key[i]) & (r == realm[i]);
+        let rivals = provides[place] & provides[i] & here & also & same;
         if rivals & (o != e) {
             return false;
         }
@@ -100,12 +101,7 @@ pub(crate) fn one_owner(
     chain_ports(key, realm, end, &mut first, &mut next);
     let mut i = 0;
     while i < end {
-        let port = Port {
-            key: key[i],
-            realm: realm[i],
-        };
-        let d = records::declaration_of(owner[i], provides[i], port);
-        if !one_provider(owner, key, realm, provides, present, end, &first, &next, d) {
+        if !one_provider(owner, key, realm, provides, present, end, &first, &next, i) {
             return false;
         }
         i += 1;
@@ -178,8 +174,8 @@ fn meet(
     found
 }
 
-// Whether a live link's ends are installed, its provider serving, both declared its port, and its consumer is no provider of a live link so far:
-// its provider is marked as seen, and its consumer's dependencies on the port as met.
+// Whether a dead link's ends are issued; a live link's ends installed, its provider serving, both declared its port, and its consumer is no provider
+// of a live link so far: its provider is marked as seen, and its consumer's dependencies on the port as met.
 fn link_ok(
     owner: &[usize; DECLARATIONS],
     key: &[u64; DECLARATIONS],
@@ -188,6 +184,7 @@ fn link_ok(
     count: usize,
     first: &[usize; BUCKETS],
     next: &[usize; DECLARATIONS],
+    issued: usize,
     installed: &[bool; IDENTITIES],
     serving: &[bool; IDENTITIES],
     link: Link,
@@ -196,7 +193,7 @@ fn link_ok(
 ) -> bool
     requires { ⌜ Chained (bucketAt (now owner) (now key) (now realm)) DECLARATIONS count (now first) (now next) × (length (now seen) ≡ IDENTITIES) × (length (now met) ≡ DECLARATIONS) ⌝ }
     ensures { λ r. ⌜
-        (r ≡ linkOk (flag IDENTITIES (now (installed .entry))) (flag IDENTITIES (now (serving .entry)))
+        (r ≡ linkPasses issued (flag IDENTITIES (now (installed .entry))) (flag IDENTITIES (now (serving .entry)))
         (take count (declarationsOf DECLARATIONS (now (owner .entry)) (now (key .entry)) (now (realm .entry)) (now (provides .entry)))) link
         && unmarked (marked (now (seen .entry)) link) link)
         × (r ≡ true → (now (seen .exit) ≡ marked (now (seen .entry)) link) × (length (now (seen .exit)) ≡ IDENTITIES)
@@ -205,11 +202,11 @@ fn link_ok(
         ≡ meets (declarationAt (now (owner .entry)) (now (key .entry)) (now (realm .entry)) (now (provides .entry)) i) link || getD (now (met .entry)) i false))
         ⌝ }
 {
-    if !link.live {
-        return true;
-    }
     let c = records::consumer_in(link);
     let p = records::provider_in(link);
+    if !link.live {
+        return (c < issued) & (p < issued);
+    }
     if !(flag_at(installed, c) & flag_at(serving, p)) {
         return false;
     }
@@ -251,13 +248,14 @@ pub(crate) fn links_ok(
     realm: &[u64; DECLARATIONS],
     provides: &[bool; DECLARATIONS],
     count: usize,
+    issued: usize,
     installed: &[bool; IDENTITIES],
     serving: &[bool; IDENTITIES],
     met: &mut [bool; DECLARATIONS],
 ) -> bool
     requires { ⌜ now met ≡ replicate DECLARATIONS false ⌝ }
     ensures { λ r. ⌜
-        (r ≡ (all (linkOk (flag IDENTITIES (now (installed .entry))) (flag IDENTITIES (now (serving .entry)))
+        (r ≡ (all (linkPasses issued (flag IDENTITIES (now (installed .entry))) (flag IDENTITIES (now (serving .entry)))
         (take count (declarationsOf DECLARATIONS (now (owner .entry)) (now (key .entry)) (now (realm .entry)) (now (provides .entry))))) (take linked links)
         && ordered (take linked links)) && all isBlankLink (drop linked links))
         × (r ≡ true → (i : ℕ) → i < count → i < DECLARATIONS → getD (now (met .exit)) i false
@@ -281,6 +279,7 @@ pub(crate) fn links_ok(
             size,
             &first,
             &next,
+            issued,
             installed,
             serving,
             l,

@@ -1,4 +1,4 @@
--- What is made of a line's operands.
+-- What is made of a line's operands. A record stores an identity in one byte: from 256 on the operand becomes 255.
 use mathlib.Core.Path.{_≡_}
 use mathlib.Core.Bool.{Bool, cond}
 use Prim.Native.Nat.{_%_, _+_, _-_, _<_, _^_, _≤_, suc, zero, ℕ}
@@ -11,7 +11,7 @@ use Rattle.model.specs.declared.PortList.{PortList}
 use Rattle.model.specs.declared.records.Declaration.{Declaration}
 use Rattle.model.specs.declared.records.Link.{Link}
 use Rattle.model.specs.declared.records.Node.{Node}
-use Rattle.model.specs.Records.{bindingOf, blankPort, declarationOf, linkOf, parentIn}
+use Rattle.model.specs.Records.{bindingOf, blankPort, byteOf, byteParent, declarationOf, linkOf, parentIn}
 use Rattle.model.specs.Sizes.{listLimit}
 use Rattle.text.specs.declared.words.Line.{Line}
 
@@ -35,16 +35,16 @@ pub record NodeFor (line : Line) (node : Node) : Type 0 where
   pub retired : node .retired ≡ isYes (line .third)
   pub phase : node .phase ≡ phaseAt (line .fourth)
   pub restoring : node .restoring ≡ isYes (line .fifth)
-  pub parent : parentIn node ≡ parentOf (line .none) (line .sixth)
+  pub parent : parentIn node ≡ byteParent (parentOf (line .none) (line .sixth))
   pub generation : node .generation ≡ line .seventh
 
 -- PLACE OWNER KEY REALM PROVIDES
 abbrev pub declarationFor : Line → Declaration
-declarationFor line = declarationOf (line .second) (isYes (line .fifth)) (portFor (line .third) (line .fourth))
+declarationFor line = declarationOf (byteOf (line .second)) (isYes (line .fifth)) (portFor (line .third) (line .fourth))
 
 -- PLACE CONSUMER KEY REALM PROVIDER LIVE
 abbrev pub linkFor : Line → Link
-linkFor line = linkOf (line .second) (bindingOf (portFor (line .third) (line .fourth)) (line .fifth)) (isYes (line .sixth))
+linkFor line = linkOf (byteOf (line .second)) (bindingOf (portFor (line .third) (line .fourth)) (byteOf (line .fifth))) (isYes (line .sixth))
 
 -- a key, so many steps on; past the largest number it wraps
 unfoldable pub stepped : ℕ → ℕ → ℕ → ℕ

@@ -1,4 +1,5 @@
 // Records made of a line's operands, in the order in which the tables are written, the first the record's place; port lists.
+// A record stores an identity in one byte, so that from 256 on an operand becomes 255.
 ghost use mathlib.Core.List.{[]};
 ghost use mathlib.Core.Path.{_≡_};
 ghost use Rattle.model.specs.Interface.{portList};

@@ -1,9 +1,9 @@
 -- Rows of tests that a method asks in other words than its command's row.
 use Rattle.model.proofs.Logic.{_++_, _≡_, true, ℕ}
 use Rattle.kernel.specs.{Fields.ask, Fields.layoutOf, Outcomes.answerOf, declared.Kernel.Kernel}
-use Rattle.model.specs.{Answers.answer, Insertion.checkInsert, Insertion.insertTests, Layouts.soundKernel, Layouts.tablesOf, Lifecycle.beginCleanupTests, Lifecycle.checkIteration, Lifecycle.iterationTests, Lifecycle.removeTests, Lifecycle.retiredTests, Lifecycle.unloadingTests, Records.absentNode, Records.restoringNode, Refusals.Reply, Soundness.safetyWf, Soundness.wf, Tables.nodeAt, UpdateNode.updateTests, declared.Error.Error, declared.Parent.Parent, declared.PortList.PortList}
+use Rattle.model.specs.{Answers.answer, Insertion.checkInsert, Insertion.insertTests, Layouts.soundKernel, Layouts.tablesOf, Lifecycle.beginCleanupTests, Lifecycle.checkIteration, Lifecycle.iterationTests, Lifecycle.removeTests, Lifecycle.retiredTests, Lifecycle.unloadingTests, Records.absentNode, Records.restoringNode, Refusals.Reply, Tables.nodeAt, UpdateNode.updateTests, declared.Error.Error, declared.Parent.Parent, declared.PortList.PortList}
 use Rattle.layouts.proofs.{Laws.Nodes.same-rest, Laws.Rows.asked-map, Laws.Rows.rows-agree}
-use Rattle.model.proofs.{Laws.Booleans.and-l, Laws.Facts.Safe, Laws.Facts.safe-of, Theorems.Layouts.laid-of, Theorems.UpdateNode.update-to-absent, Theorems.UpdateNode.update-to-restoring}
+use Rattle.model.proofs.{Laws.Facts.Safe, Laws.Facts.facts, Theorems.Layouts.tables-sound, Theorems.UpdateNode.update-to-absent, Theorems.UpdateNode.update-to-restoring}
 use Rattle.sizes.specs.{Sizes.sizes}
 
 -- ---- the checks answer by their rows
@@ -19,8 +19,7 @@ insertion-row k q ds ps = asked-map sizes (layoutOf k) answer (Reply.refused Err
 -- ---- a command that asks update_node: of update_node's row there is left what the command's has
 
 safe : (k : Kernel) → soundKernel sizes (layoutOf k) ≡ true → Safe (tablesOf (layoutOf k))
-unfolding wf
-safe k h = let T = tablesOf (layoutOf k) in safe-of T (and-l (safetyWf T) _ ((laid-of sizes (layoutOf k) h) .points))
+safe k h = (facts sizes (tablesOf (layoutOf k)) (tables-sound sizes (layoutOf k) h)) .safe
 
 pub begin-cleanup-row : (k : Kernel) (id : ℕ) → answerOf k (λ T. unloadingTests (nodeAt (T .nodes) id) ++ updateTests T id (restoringNode (nodeAt (T .nodes) id))) ≡ answerOf k (λ T. beginCleanupTests T id)
 begin-cleanup-row k id = rows-agree sizes (layoutOf k) _ _ (λ h. let T = tablesOf (layoutOf k) in same-rest (unloadingTests (nodeAt (T .nodes) id)) _ _ (λ p. update-to-restoring T id (safe k h) p))

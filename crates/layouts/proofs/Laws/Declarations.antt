@@ -1,7 +1,7 @@
 -- Declarations of a sound kernel: what scans of its arrays find, and one list or record behind them.
-use Rattle.model.proofs.Logic.{Bool, List, [], _&&_, _++_, _+_, _<_, _||_, _∙_, _∷_, _≡_, _≤_, ap, append-assoc, arith, cond, false, getD, leb-false, length, length-map, length-take-le, ltb-false, map, not, refl, set, sym, take, true, ℕ}
-use Rattle.model.specs.{Insertion.clashes, Insertion.insertTests, Insertion.inserted, Insertion.parentPresent, Insertion.parentRetired, Interface.configurableTests, Interface.dependenciesConfigured, Interface.distinct, Interface.listed, Interface.own, Interface.provisionDeclared, Interface.remaining, Interface.remains, Interface.taken, Interface.tooLong, Layouts.Layout, Layouts.Sized, Layouts.layOut, Layouts.tablesOf, Lists.any, Lists.padded, Records.blankDeclaration, Records.blankNode, Records.dependency, Records.newNode, Records.provision, Resolution.offers, Sizes.Sizes, Sizes.listLimit, Soundness.isDeclaration, Tables.Tables, Tables.present, Tables.withDeclarations, declared.Answer.Answer, declared.Parent.Parent, declared.Port.Port, declared.PortList.PortList, declared.records.Declaration.Declaration, declared.records.Node.Node}
-use Rattle.layouts.proofs.{Laws.Anew.HoldsDeclarations, Laws.Anew.declarations-anew, Laws.Anew.declarations-held, Laws.Anew.declarationsTo, Laws.Anew.holds-more, Laws.Anew.holds-one, Laws.Anew.holds-padded, Laws.Anew.kept-fewer, Laws.Anew.laid-as, Laws.Anew.links-held, Laws.Anew.nodesTo, Laws.Rows.done-row, Laws.Rows.done-sound, Laws.Sound.SoundKernel, Laws.Sound.declaration-count-is, Laws.Sound.laid, Laws.Sound.node-count-is, Laws.Sound.node-is, Laws.Sound.nodes-flagged, Laws.Sound.nodes-laid}
+use Rattle.model.proofs.Logic.{Bool, List, [], _&&_, _++_, _+_, _<_, _||_, _∙_, _∷_, _≡_, _≤_, ap, append-assoc, arith, cond, false, getD, leb-false, length, length-map, length-take-le, lt-ltb, ltb-false, map, not, not-false, refl, set, sym, take, true, ℕ}
+use Rattle.model.specs.{Insertion.clashes, Insertion.insertTests, Insertion.inserted, Insertion.parentPresent, Insertion.parentRetired, Interface.configurableTests, Interface.dependenciesConfigured, Interface.distinct, Interface.listed, Interface.own, Interface.provisionDeclared, Interface.remaining, Interface.remains, Interface.taken, Interface.tooLong, Layouts.Layout, Layouts.Sized, Layouts.layOut, Layouts.tablesOf, Lists.any, Lists.padded, Records.blankDeclaration, Records.blankNode, Records.dependency, Records.newNode, Records.provision, Resolution.offers, Sizes.Sizes, Sizes.listLimit, Soundness.isDeclaration, Soundness.smaller, Tables.Tables, Tables.present, Tables.withDeclarations, declared.Answer.Answer, declared.Parent.Parent, declared.Port.Port, declared.PortList.PortList, declared.records.Declaration.Declaration, declared.records.Node.Node}
+use Rattle.layouts.proofs.{Laws.Anew.HoldsDeclarations, Laws.Anew.declarations-anew, Laws.Anew.declarations-held, Laws.Anew.declarationsTo, Laws.Anew.holds-more, Laws.Anew.holds-one, Laws.Anew.holds-padded, Laws.Anew.kept-fewer, Laws.Anew.laid-as, Laws.Anew.links-held, Laws.Anew.nodesTo, Laws.Rows.done-row, Laws.Rows.done-sound, Laws.Sound.SoundKernel, Laws.Sound.declaration-count-is, Laws.Sound.laid, Laws.Sound.node-count-is, Laws.Sound.node-is, Laws.Sound.nodes-flagged, Laws.Sound.nodes-laid, Laws.Sound.present-below}
 use Rattle.layouts.specs.{Rows.rowAnswer}
 use Rattle.loops.specs.{Columns.flag}
 use Rattle.model.proofs.{Laws.Booleans.or-f-l, Laws.Booleans.or-f-r, Laws.Refusals.Passed, Theorems.Layouts.laid-out}
@@ -129,12 +129,14 @@ pub record Configurable (S : Sizes) (k : Layout) (id : ℕ) (l : PortList) : Typ
   pub kernel : SoundKernel S k
   pub tests : Passed (configurableTests (tablesOf k) id l)
   pub short : Short l
+  pub below : id < S .identities
 
 -- where they answered done
 pub configurable : {S : Sizes} {k : Layout} (z : Sized S k) (id : ℕ) {l : PortList} → length (l .ports) ≡ listLimit → {a : Answer} → a ≡ rowAnswer S k (λ T. configurableTests T id l) → a ≡ Answer.Done → Configurable S k id l
 configurable z id {l} n {a} e d =
     let passed = done-row z (λ T. configurableTests T id l) a e d in
-    record { kernel = done-sound z (λ T. configurableTests T id l) a e d; tests = passed; short = record { array = n; within = ltb-false listLimit (l .count) (passed .0) } }
+    let K = done-sound z (λ T. configurableTests T id l) a e d in
+    record { kernel = K; tests = passed; short = record { array = n; within = ltb-false listLimit (l .count) (passed .0) }; below = present-below K id (not-false _ (passed .1 .0)) }
 
 module _ {S : Sizes} {k : Layout} {id : ℕ} {l : PortList} (C : Configurable S k id l) {array : List Declaration} {n : ℕ} (h : HoldsDeclarations S (remaining (tablesOf k) id) array n) where
   -- the sum that the row tests, by the counts
@@ -151,11 +153,18 @@ module _ {S : Sizes} {k : Layout} {id : ℕ} {l : PortList} (C : Configurable S 
 
 -- ---- what insertion's tests leave room for
 
-pub record Insertable (S : Sizes) (k : Layout) (ds ps : PortList) : Type 0 where
+pub record Insertable (S : Sizes) (k : Layout) (q : Parent) (ds ps : PortList) : Type 0 where
   pub kernel : SoundKernel S k
+  pub parent : smaller (S .identities) q ≡ true
   pub short : Short ds × Short ps
   pub node : k .nodeCount < S .identities
   pub sum : k .declarationCount + ds .count + ps .count ≤ S .declarations
+
+-- a parent that is present stands in the array
+parent-below : {S : Sizes} {k : Layout} → SoundKernel S k → (q : Parent) → parentPresent (tablesOf k) q ≡ true → smaller (S .identities) q ≡ true
+unfolding parentPresent
+parent-below K Parent.None h = refl
+parent-below K (Parent.Of p) h = lt-ltb _ _ (present-below K p h)
 
 module _ {S : Sizes} {k : Layout} (K : SoundKernel S k) {ds ps : PortList} where
   -- how many declarations there would be
@@ -163,9 +172,9 @@ module _ {S : Sizes} {k : Layout} (K : SoundKernel S k) {ds ps : PortList} where
   declared-count s = rw (declaration-count-is K, length-listed (s .0), length-listed (s .1))
 
   -- the one line that reads the row by place
-  pub insertable : (q : Parent) → length (ds .ports) ≡ listLimit → length (ps .ports) ≡ listLimit → Passed (insertTests S (tablesOf k) q ds ps) → Insertable S k ds ps
-  insertable q d p (long, (full, (_, (_, (_, (sum, _)))))) =
+  pub insertable : (q : Parent) → length (ds .ports) ≡ listLimit → length (ps .ports) ≡ listLimit → Passed (insertTests S (tablesOf k) q ds ps) → Insertable S k q ds ps
+  insertable q d p (long, (full, (parent, (_, (_, (sum, _)))))) =
       let s = both-short {ds = ds} {ps = ps} d p long in
       let free : length ((tablesOf k) .nodes) < S .identities = leb-false _ _ full in
       let fits : length ((tablesOf k) .declarations) + length (listed ds) + length (listed ps) ≤ S .declarations = ltb-false _ _ sum in
-      record { kernel = K; short = s; node = rw (node-count-is K) at free; sum = rw (declared-count s) at fits }
+      record { kernel = K; parent = parent-below K q (not-false _ parent); short = s; node = rw (node-count-is K) at free; sum = rw (declared-count s) at fits }

@@ -1,9 +1,9 @@
 -- The target of a component of a sound kernel, as a scan of its arrays finds it.
 use Rattle.model.proofs.Logic.{Bool, List, Option, _++_, _+_, _-_, _<_, _||_, _∙_, _≡_, _≤_, _⊎_, ap, arith, cond, false, getD, inl, inr, le-ltb, length, length-map, lt-ltb, ltb, map, none, not, or-true, refl, set, some, sym, take, true, ℕ}
 use Rattle.model.specs.{Kernels.asked, Layouts.Layout, Layouts.Sized, Layouts.layOut, Layouts.soundKernel, Layouts.tablesOf, Lifecycle.begun, Lifecycle.begunNode, Lifecycle.bindings, Lists.isNone, Lists.keep, Lists.padded, Records.blankBinding, Records.blankLink, Records.blankNode, Records.isProviding, Records.liveLink, Records.portOf, Resolution.Target, Resolution.bindPorts, Resolution.dependencyPorts, Resolution.isDependencyOf, Resolution.lookUp, Resolution.resolve, Resolution.target, Resolution.targetList, Sizes.Sizes, Tables.nodeAt, Tables.present, declared.Binding.Binding, declared.Port.Port, declared.Resolution.Resolution, declared.records.Link.Link, declared.records.Node.Node}
-use Rattle.layouts.proofs.{Laws.Anew.Holds, Laws.Anew.holds-more, Laws.Anew.links-held, Laws.Anew.linksTo, Laws.Anew.nodesTo, Laws.Nodes.node-and-links, Laws.Sound.SoundKernel, Laws.Sound.ask-sound, Laws.Sound.declaration-count-is, Laws.Sound.laid, Laws.Sound.link-count-is, Laws.Sound.node-has, Laws.Sound.node-is, Laws.Sound.nodes-flagged}
+use Rattle.layouts.proofs.{Laws.Anew.Holds, Laws.Anew.holds-more, Laws.Anew.links-held, Laws.Anew.linksTo, Laws.Anew.nodesTo, Laws.Nodes.node-and-links, Laws.Sound.SoundKernel, Laws.Sound.ask-sound, Laws.Sound.declaration-count-is, Laws.Sound.laid, Laws.Sound.link-count-is, Laws.Sound.node-has, Laws.Sound.node-is, Laws.Sound.nodes-flagged, Laws.Sound.present-below}
 use Rattle.loops.specs.{Columns.flag}
-use Rattle.model.proofs.{Laws.Arrays.length-padded, Laws.Arrays.take-padded, Laws.Booleans.cases, Laws.Lists.length-keep, Laws.Resolution.bound-ports, Laws.Resolution.target-bound, Laws.Resolution.target-none, Laws.Resolution.targeted}
+use Rattle.model.proofs.{Laws.Arrays.getD-padded, Laws.Arrays.length-padded, Laws.Arrays.take-padded, Laws.Booleans.cases, Laws.Lists.length-keep, Laws.Lists.place-in, Laws.Resolution.bound-ports, Laws.Resolution.target-bound, Laws.Resolution.target-none, Laws.Resolution.target-resolved, Laws.Resolution.targeted}
 
 -- what looking up a port finds in the declarations below the count, by what the array's nodes show
 abbrev pub lookedUp : Sizes → Layout → Port → Resolution
@@ -112,6 +112,16 @@ module _ {S : Sizes} {k : Layout} {id : ℕ} {there : Bool} {array : List Bindin
 
   pub target-width : length array ≡ S .declarations
   target-width = rw (← (H .bound .entries)) (length-padded (S .declarations) blankBinding bs (target-within (H .kernel) id (targetList (target (tablesOf k) id)) refl))
+
+  -- a provider that it names stands in the nodes' array
+  pub provider-below : (i : ℕ) → i < count → (getD array i blankBinding) .provider < S .identities
+  provider-below i l =
+      let T = tablesOf k in
+      rw (← (H .bound .entries), getD-padded (S .declarations) blankBinding bs i) (go (targetList (target T id)) refl (rw (← (H .bound .counted)) at l))
+    where
+      go : (o : Option (List Binding)) → targetList (target (tablesOf k) id) ≡ o → i < length (bindings o) → (getD (bindings o) i blankBinding) .provider < S .identities
+      go none e m = absurd (omega arith)
+      go (some xs) e m = present-below (H .kernel) _ (target-resolved (tablesOf k) id xs (targeted (tablesOf k) id xs e) _ (place-in xs i blankBinding m) .there)
 
   target-taken : take count array ≡ bs
   target-taken = rw (← (H .bound .entries), ← (H .bound .counted)) (take-padded (S .declarations) blankBinding bs)

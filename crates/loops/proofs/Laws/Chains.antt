@@ -283,12 +283,12 @@ only-rival here d e t =
     let h : Each tests = each tests (not-f (conj tests) (or-f-l (not (conj tests)) (eqb (ownerIn d) (ownerIn e)) (not-t _ t))) in
     sym (same-bucket 0 0 (declaredPort d) (declaredPort e) refl (h .1 .1 .1 .1 .0))
 
--- whether it is one: p and o are its port and its owner, and x and y tell that the owners are present
+-- whether it is one: x and y tell that the owners are present
 pub rival :
-    (here : ℕ → Bool) (d e : Declaration) {p : Port} {o : ℕ} {x y b : Bool} → p ≡ declaredPort d → o ≡ ownerIn d → x ≡ here (ownerIn d) → y ≡ here (ownerIn e) →
-    d .provides && e .provides && x && y && samePort p (declaredPort e) && not (eqb o (ownerIn e)) ≡ b → isRival here d e ≡ b
+    (here : ℕ → Bool) (d e : Declaration) {x y b : Bool} → x ≡ here (ownerIn d) → y ≡ here (ownerIn e) →
+    d .provides && e .provides && x && y && samePort (declaredPort d) (declaredPort e) && not (eqb (ownerIn d) (ownerIn e)) ≡ b → isRival here d e ≡ b
 unfolding sameOwner
-rival here d e m n p q t = go (conj (rivalTests here d e)) (eqb (ownerIn d) (ownerIn e)) ∙ (rw (m, n, p, q) at t)
+rival here d e p q t = go (conj (rivalTests here d e)) (eqb (ownerIn d) (ownerIn e)) ∙ (rw (p, q) at t)
   where
     go : (a b : Bool) → not (a ⇒ b) ≡ a && not b
     go true b = refl

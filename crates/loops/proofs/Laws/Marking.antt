@@ -1,26 +1,13 @@
 -- The order of links by one pass that marks the providers met: what is left to test, a step on, a hit and the end.
 use Rattle.model.proofs.Logic.{Bool, Bool·not-not, List, [], _&&_, _<_, _||_, _∙_, _∷_, _≡_, _⊎_, and-comm, and-false, and-true, cond, eqb, eqb-false, eqb-true, false, getD, getD-set-other, getD-set-same, inl, inr, length, ltb, ltb-true, ne-eqb, not, refl, replicate, set, suc, sym, true, zero, ℕ}
-use Rattle.model.specs.{Lists._⇒_, Lists.all, Lists.any, Lists.conj, Lists.onward, Records.consumerIn, Records.declaredPort, Records.ownerIn, Records.portIn, Records.providerIn, Soundness.apart, Soundness.declares, Soundness.isCovered, Soundness.isDeclaration, Soundness.linkOk, Soundness.linkTests, Soundness.linksTo, Soundness.ordered, declared.records.Declaration.Declaration, declared.records.Link.Link}
+use Rattle.model.specs.{Lists._⇒_, Lists.all, Lists.any, Lists.conj, Lists.onward, Records.consumerIn, Records.declaredPort, Records.ownerIn, Records.portIn, Records.providerIn, Soundness.apart, Soundness.deadOk, Soundness.declares, Soundness.endTests, Soundness.isCovered, Soundness.isDeclaration, Soundness.linkOk, Soundness.linkTests, Soundness.linksTo, Soundness.ordered, declared.records.Declaration.Declaration, declared.records.Link.Link}
 use Rattle.model.proofs.{Laws.Booleans.Each, Laws.Booleans.and-l, Laws.Booleans.and-r, Laws.Booleans.cases, Laws.Booleans.each, Laws.Booleans.imp-e, Laws.Lists.in-all}
-use Rattle.loops.proofs.{Laws.Chains.is-dependency}
-use Rattle.loops.specs.{Columns.flag, Marks.marked, Marks.meets, Marks.unmarked}
+use Rattle.loops.proofs.{Laws.Chains.is-dependency, Laws.Passes.all-both}
+use Rattle.loops.specs.{Columns.flag, Marks.marked, Marks.meets, Marks.unmarked, Passes.linkPasses}
 
 -- what is left to test: no consumer of the rest is marked, and the rest is ordered
 abbrev pub leftToOrder : List Bool → List Link → Bool
 leftToOrder seen ls = all (unmarked seen) ls && ordered ls
-
--- a test that is two tests
-all-both : {A : Type 0} (p q r : A → Bool) → ((x : A) → r x ≡ p x && q x) → (xs : List A) → all r xs ≡ all p xs && all q xs
-unfolding all
-all-both p q r h [] = refl
-all-both p q r h (x ∷ xs) = rw (h x, all-both p q r h xs) (regroup (p x) (q x) (all p xs) (all q xs))
-  where
-    regroup : (a b c d : Bool) → (a && b) && (c && d) ≡ (a && c) && (b && d)
-    regroup false b c d = refl
-    regroup true true true d = refl
-    regroup true true false d = refl
-    regroup true false true d = refl
-    regroup true false false d = refl
 
 marked-at : (met : List Bool) (p x : ℕ) → p < length met → getD (set met p true) x false ≡ eqb p x || getD met x false
 marked-at met p x l = go (eqb p x) refl
@@ -109,11 +96,11 @@ provider-below n installs serves ds l h t =
     let q : Each tests = each tests (imp-e (l .live) (conj tests) h t) in
     ltb-true (providerIn l) n (and-l (ltb (providerIn l) n) _ (q .1 .0))
 
--- a dead link passes, marks no provider and meets no dependency
+-- a dead link passes where its ends are issued, marks no provider and meets no dependency
 module _ (l : Link) (t : l .live ≡ false) where
-  pub dead-ok : (installs serves : ℕ → Bool) (ds : List Declaration) (seen : List Bool) → linkOk installs serves ds l && unmarked (marked seen l) l ≡ true
-  unfolding linkOk
-  dead-ok installs serves ds seen = rw t
+  pub dead-ends : (issued : ℕ) (installs serves : ℕ → Bool) (ds : List Declaration) (seen : List Bool) → linkPasses issued installs serves ds l && unmarked (marked seen l) l ≡ conj (endTests issued l)
+  unfolding linkOk deadOk
+  dead-ends issued installs serves ds seen = rw t (and-true (conj (endTests issued l)))
 
   pub dead-marked : (seen : List Bool) → marked seen l ≡ seen
   dead-marked seen = rw t
@@ -131,10 +118,10 @@ eqb-comm a b = go (cases (eqb a b))
 
 -- a live link
 module _ (l : Link) (t : l .live ≡ true) where
-  module _ (installs serves : ℕ → Bool) (ds : List Declaration) (seen : List Bool) where
+  module _ (issued : ℕ) (installs serves : ℕ → Bool) (ds : List Declaration) (seen : List Bool) where
     -- an end fails
-    pub ends-fail : installs (consumerIn l) && serves (providerIn l) ≡ false → linkOk installs serves ds l && unmarked (marked seen l) l ≡ false
-    unfolding linkOk
+    pub ends-fail : installs (consumerIn l) && serves (providerIn l) ≡ false → linkPasses issued installs serves ds l && unmarked (marked seen l) l ≡ false
+    unfolding linkOk deadOk
     ends-fail h = rw (t, h)
 
     -- both ends declared the port
@@ -143,9 +130,9 @@ module _ (l : Link) (t : l .live ≡ true) where
 
     -- the rest decides
     pub ends-pass : installs (consumerIn l) && serves (providerIn l) ≡ true
-        → linkOk installs serves ds l && unmarked (marked seen l) l ≡ both && not (getD (set seen (providerIn l) true) (consumerIn l) false)
-    unfolding linkOk
-    ends-pass h = rw (t, h)
+        → linkPasses issued installs serves ds l && unmarked (marked seen l) l ≡ both && not (getD (set seen (providerIn l) true) (consumerIn l) false)
+    unfolding linkOk deadOk
+    ends-pass h = rw (t, h, and-true both)
 
   pub live-marked : (seen : List Bool) → set seen (providerIn l) true ≡ marked seen l
   live-marked seen = rw t

@@ -1,6 +1,6 @@
 -- Soundness as facts by membership, and that the test says just these.
 use Rattle.model.proofs.Logic.{Bool, Bool·beq, List, List·Memᴰ, List·getD-eq-default, Memᴰ·cast, _&&_, _<_, _≡_, _≤_, _⊎_, arith, decLt, eq-eqb, eqb, eqb-true, false, getD, inl, inr, le-leb, leb-true, length, lt-ltb, ltb-true, not, refl, sym, true, zero-add, ℕ}
-use Rattle.model.specs.{Lists.all, Lists.allAt, Lists.any, Lists.conj, Records.bindingIn, Records.blankNode, Records.consistencyTests, Records.consumerIn, Records.declarationOf, Records.declaredPort, Records.dependency, Records.isConsistent, Records.isInactive, Records.isUnloading, Records.ownerIn, Records.parentIn, Records.portIn, Records.portOf, Records.providerIn, Records.provision, Records.samePort, Sizes.Sizes, Soundness.coverage, Soundness.declares, Soundness.fits, Soundness.hasOwner, Soundness.isCovered, Soundness.isDeclaration, Soundness.linkOk, Soundness.linkTests, Soundness.linksTo, Soundness.needTests, Soundness.nodeOk, Soundness.ordered, Soundness.parentOk, Soundness.rivalTests, Soundness.safetyTests, Soundness.safetyWf, Soundness.sameOwner, Soundness.sizeTests, Soundness.sound, Soundness.wf, Tables.Tables, Tables.installed, Tables.nodeAt, Tables.notInactive, Tables.present, Tables.serving, declared.Binding.Binding, declared.Port.Port, declared.records.Declaration.Declaration, declared.records.Link.Link, declared.records.Node.Node}
+use Rattle.model.specs.{Lists.all, Lists.allAt, Lists.any, Lists.conj, Records.bindingIn, Records.blankNode, Records.consistencyTests, Records.consumerIn, Records.declarationOf, Records.declaredPort, Records.dependency, Records.isConsistent, Records.isInactive, Records.isUnloading, Records.ownerIn, Records.parentIn, Records.portIn, Records.portOf, Records.providerIn, Records.provision, Records.samePort, Sizes.Sizes, Soundness.absentOk, Soundness.coverage, Soundness.deadOk, Soundness.declares, Soundness.eightPoints, Soundness.endTests, Soundness.fits, Soundness.hasOwner, Soundness.isCovered, Soundness.isDeclaration, Soundness.linkOk, Soundness.linkTests, Soundness.linksTo, Soundness.needTests, Soundness.nodeOk, Soundness.ordered, Soundness.parentOk, Soundness.rivalTests, Soundness.safetyTests, Soundness.safetyWf, Soundness.sameOwner, Soundness.sizeTests, Soundness.smaller, Soundness.sound, Soundness.storedTests, Soundness.storedWf, Soundness.wf, Tables.Tables, Tables.installed, Tables.nodeAt, Tables.notInactive, Tables.present, Tables.serving, declared.Binding.Binding, declared.Port.Port, declared.records.Declaration.Declaration, declared.records.Link.Link, declared.records.Node.Node}
 use Rattle.model.proofs.{Laws.Booleans.Each, Laws.Booleans.and-i, Laws.Booleans.and-l, Laws.Booleans.and-r, Laws.Booleans.cases, Laws.Booleans.clash, Laws.Booleans.each, Laws.Booleans.f-not, Laws.Booleans.imp-e, Laws.Booleans.imp-i, Laws.Booleans.not-t, Laws.Booleans.of-each, Laws.Lists.all-in, Laws.Lists.allAt-at, Laws.Lists.any-in, Laws.Lists.at-allAt, Laws.Lists.in-all, Laws.Lists.in-any, Laws.Records.declaration-is, Laws.Records.port-is}
 
 pub record NodeOk (ns : List Node) (i : ℕ) (n : Node) : Type 0 where
@@ -41,7 +41,7 @@ pub record Fits (S : Sizes) (T : Tables) : Type 0 where
   pub declarations : length (T .declarations) ≤ S .declarations
   pub links : length (T .links) ≤ S .links
 
--- the points without the last
+-- points 1 to 5
 pub record Safe (T : Tables) : Type 0 where
   pub owners : (d : Declaration) → List·Memᴰ d (T .declarations) → ownerIn d < length (T .nodes)
   pub unique : Unique (T .nodes) (T .declarations)
@@ -65,10 +65,24 @@ Covered T =
     → notInactive (T .nodes) (ownerIn d) ≡ true
     → Linked (T .links) (ownerIn d) (declaredPort d)
 
+-- an absent node's parent is smaller
+abbrev pub AbsentOk : ℕ → Node → Type 0
+AbsentOk i n = n .present ≡ false → smaller i (parentIn n) ≡ true
+
+-- a dead link's ends are below the count
+abbrev pub DeadOk : List Node → Link → Type 0
+DeadOk ns l = l .live ≡ false → (consumerIn l < length ns) × (providerIn l < length ns)
+
+-- points 7 and 8
+pub record Stored (ns : List Node) (ls : List Link) : Type 0 where
+  pub dead : (l : Link) → List·Memᴰ l ls → DeadOk ns l
+  pub absent : (i : ℕ) → AbsentOk i (nodeAt ns i)
+
 pub record Sound (S : Sizes) (T : Tables) : Type 0 where
   pub sizes : Fits S T
   pub safe : Safe T
   pub covered : Covered T
+  pub stored : Stored (T .nodes) (T .links)
 
 -- ---- equality tests
 
@@ -234,6 +248,35 @@ of-safe T k = of-each (safetyTests T) (owned, (in-all _ (T .declarations) (λ d 
     linked : all (linkOk (installed (T .nodes)) (serving (T .nodes)) (T .declarations)) (T .links) ≡ true
     linked = in-all _ (T .links) (λ l m. of-live (T .nodes) (T .declarations) l (k .live l m))
 
+pub stored-of : (T : Tables) → storedWf T ≡ true → Stored (T .nodes) (T .links)
+unfolding storedWf deadOk absentOk
+stored-of T h = record { dead = dead; absent = λ i. absent i (decLt i (length (T .nodes))) }
+  where
+    e : Each (storedTests T)
+    e = each (storedTests T) h
+
+    dead : (l : Link) → List·Memᴰ l (T .links) → DeadOk (T .nodes) l
+    dead l m v =
+        let ends = endTests (length (T .nodes)) l in
+        let x : Each ends = each ends (imp-e (not (l .live)) _ (all-in (deadOk (length (T .nodes))) m (e .0)) (f-not _ v)) in
+        (ltb-true _ _ (x .0), ltb-true _ _ (x .1 .0))
+
+    absent : (i : ℕ) → Dec (i < length (T .nodes)) → AbsentOk i (nodeAt (T .nodes) i)
+    absent i (yes l) = λ a. imp-e (not ((nodeAt (T .nodes) i) .present)) _ (unfold nodeAt in rw (zero-add i) at (allAt-at absentOk 0 (T .nodes) (e .1 .0) i blankNode l)) (f-not _ a)
+    absent i (no l) = unfold nodeAt in rw (List·getD-eq-default (T .nodes) blankNode {n = i} (omega arith)) (λ a. refl)
+
+pub of-stored : (T : Tables) → Stored (T .nodes) (T .links) → storedWf T ≡ true
+unfolding storedWf deadOk absentOk
+of-stored T k = of-each (storedTests T) (in-all _ (T .links) dead, (at-allAt absentOk 0 (T .nodes) blankNode (λ i l. rw (zero-add i) (absent i)), tt))
+  where
+    dead : (l : Link) → List·Memᴰ l (T .links) → deadOk (length (T .nodes)) l ≡ true
+    dead l m = imp-i (not (l .live)) _ (λ a.
+        let (c, p) = k .dead l m (not-t _ a) in
+        of-each (endTests (length (T .nodes)) l) (lt-ltb _ _ c, (lt-ltb _ _ p, tt)))
+
+    absent : (i : ℕ) → absentOk i (getD (T .nodes) i blankNode) ≡ true
+    absent i = imp-i (not ((getD (T .nodes) i blankNode) .present)) _ (λ a. unfold nodeAt in k .absent i (not-t _ a))
+
 pub fits-of : (S : Sizes) (T : Tables) → fits S T ≡ true → Fits S T
 unfolding fits
 fits-of S T h = let e : Each (sizeTests S T) = each (sizeTests S T) h in record { nodes = leb-true _ _ (e .0); declarations = leb-true _ _ (e .1 .0); links = leb-true _ _ (e .1 .1 .0) }
@@ -243,14 +286,15 @@ unfolding fits
 of-fits S T k = of-each (sizeTests S T) (le-leb _ _ (k .nodes), (le-leb _ _ (k .declarations), (le-leb _ _ (k .links), tt)))
 
 pub facts : (S : Sizes) (T : Tables) → sound S T ≡ true → Sound S T
-unfolding sound wf
+unfolding sound eightPoints wf
 facts S T h =
-    let w : wf T ≡ true = and-r (fits S T) _ h in
-    record { sizes = fits-of S T (and-l (fits S T) _ h); safe = safe-of T (and-l (safetyWf T) _ w); covered = covered-of T (and-r (safetyWf T) _ w) }
+    let p : eightPoints T ≡ true = and-r (fits S T) _ h in
+    let w : wf T ≡ true = and-l (wf T) _ p in
+    record { sizes = fits-of S T (and-l (fits S T) _ h); safe = safe-of T (and-l (safetyWf T) _ w); covered = covered-of T (and-r (safetyWf T) _ w); stored = stored-of T (and-r (wf T) _ p) }
 
 pub of-facts : (S : Sizes) (T : Tables) → Sound S T → sound S T ≡ true
-unfolding sound wf
-of-facts S T k = and-i (fits S T) _ (of-fits S T (k .sizes)) (and-i (safetyWf T) _ (of-safe T (k .safe)) (of-covered T (k .covered)))
+unfolding sound eightPoints wf
+of-facts S T k = and-i (fits S T) _ (of-fits S T (k .sizes)) (and-i (wf T) _ (and-i (safetyWf T) _ (of-safe T (k .safe)) (of-covered T (k .covered))) (of-stored T (k .stored)))
 
 -- a node that is not Unloading is not restoring
 pub not-restoring : (ns : List Node) (i : ℕ) (n : Node) → NodeOk ns i n → isUnloading (n .phase) ≡ false → n .restoring ≡ false

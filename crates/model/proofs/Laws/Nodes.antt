@@ -1,6 +1,6 @@
 -- The node table: an identity read, one node written anew, one node behind the others.
 use Rattle.model.proofs.Logic.{List, List·Memᴰ, List·getD-append, List·getD-eq-default, [], _++_, _<_, _∙_, _∷_, _≡_, _≤_, ap, arith, decLt, false, getD-append-seam, getD-set-other, getD-set-same, length, length-append, ltb, refl, set, sym, true, ℕ, ℕ-discrete}
-use Rattle.model.specs.{Records.blankNode, Soundness.parentOk, Tables.nodeAt, Tables.present, declared.Parent.Parent, declared.records.Node.Node}
+use Rattle.model.specs.{Records.blankNode, Soundness.parentOk, Soundness.smaller, Tables.nodeAt, Tables.present, declared.Parent.Parent, declared.records.Node.Node}
 use Rattle.model.proofs.{Laws.Booleans.and-i, Laws.Booleans.and-l, Laws.Booleans.and-r, Laws.Booleans.clash, Laws.Lists.place-in}
 
 pub present-lt : (ns : List Node) (i : ℕ) → present ns i ≡ true → i < length ns
@@ -62,6 +62,12 @@ at-snoc P ns n p f i = go (decLt i (length ns)) (ℕ-discrete i (length ns))
     go (yes l) e = rw (old-at ns n i l) (f i)
     go (no l) (yes e) = rw (e, seam) p
     go (no l) (no e) = rw (past (omega arith)) (f i)
+
+-- a present node's parent is smaller
+pub parent-smaller : (ns : List Node) (i : ℕ) (p : Parent) → parentOk ns i p ≡ true → smaller i p ≡ true
+unfolding parentOk
+parent-smaller ns i Parent.None h = refl
+parent-smaller ns i (Parent.Of k) h = and-l (ltb k i) (present ns k) h
 
 pub parent-kept : (ns ms : List Node) (i : ℕ) (p : Parent) → ((k : ℕ) → p ≡ Parent.Of k → present ns k ≡ true → present ms k ≡ true) → parentOk ns i p ≡ true → parentOk ms i p ≡ true
 unfolding parentOk

@@ -1,6 +1,6 @@
 -- The stored records: each is its fields, and what is stored is read back.
-use Rattle.model.proofs.Logic.{_≡_, refl}
-use Rattle.model.specs.{Records.bindingIn, Records.consumerIn, Records.declaredPort, Records.givenParent, Records.ownerIn, Records.parentIn, Records.storedParent, declared.Binding.Binding, declared.Parent.Parent, declared.Port.Port, declared.records.Declaration.Declaration, declared.records.Link.Link, declared.records.Node.Node, declared.records.StoredParent.StoredParent}
+use Rattle.model.proofs.Logic.{_<_, _≡_, arith, decLt, le-ltb, lt-ltb, refl, ℕ}
+use Rattle.model.specs.{Records.bindingIn, Records.byteOf, Records.consumerIn, Records.declaredPort, Records.givenParent, Records.ownerIn, Records.parentIn, Records.storedParent, declared.Binding.Binding, declared.Parent.Parent, declared.Port.Port, declared.records.Declaration.Declaration, declared.records.Link.Link, declared.records.Node.Node, declared.records.StoredParent.StoredParent}
 
 pub port-is : {p q : Port} → p .key ≡ q .key → p .realm ≡ q .realm → p ≡ q
 port-is k r = λ i. record { key = k i; realm = r i }
@@ -13,6 +13,15 @@ declaration-is o p b = λ i. record { owner = o i; port = p i; provides = b i }
 
 pub link-is : {l m : Link} → consumerIn l ≡ consumerIn m → bindingIn l ≡ bindingIn m → l .live ≡ m .live → l ≡ m
 link-is c b v = λ i. record { key = b i .key; realm = b i .realm; consumer = c i; provider = b i .provider; live = v i }
+
+-- ---- identities in one byte: what is stored is a number below 256, and that of an identity below 256 is the identity
+
+pub byte-is : (id : ℕ) → (byteOf id < 256) × (id < 256 → byteOf id ≡ id)
+byte-is id = go (decLt id 256)
+  where
+    go : Dec (id < 256) → (byteOf id < 256) × (id < 256 → byteOf id ≡ id)
+    go (yes l) = (rw (lt-ltb id 256 l) l, λ _. rw (lt-ltb id 256 l))
+    go (no l) = (rw (le-ltb id 256 (omega arith)) (omega arith), λ m. absurd (l m))
 
 -- ---- parents
 

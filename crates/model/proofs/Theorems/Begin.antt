@@ -1,7 +1,7 @@
 -- begin keeps soundness: the node starts, and the target's bindings become live links behind the others.
 use Rattle.model.proofs.Logic.{List, List·Memᴰ, List·Memᴰ·append-cases, Memᴰ·append-left, Memᴰ·append-right, Memᴰ·cast, _++_, _+_, _<_, _∙_, _≡_, _≤_, _⊎_, ap, false, inl, inr, length, length-append, length-map, length-set, ltb-false, map, refl, set, sym, true, ℕ, ℕ-discrete}
 use Rattle.model.specs.{Lifecycle.beginTests, Lifecycle.begun, Lifecycle.begunNode, Lifecycle.phaseAt, Records.bindingIn, Records.consumerIn, Records.declaredPort, Records.dependency, Records.isInactive, Records.liveLink, Records.ownerIn, Records.portOf, Records.providerIn, Resolution.target, Resolution.targetList, Sizes.Sizes, Soundness.ordered, Tables.Tables, Tables.nodeAt, Tables.notInactive, Tables.present, Tables.withLinks, Tables.withNode, declared.Binding.Binding, declared.records.Link.Link, declared.records.Node.Node}
-use Rattle.model.proofs.{Laws.Booleans.clash, Laws.Booleans.not-f, Laws.Facts.Covered, Laws.Facts.Fits, Laws.Facts.Linked, Laws.Facts.LiveOk, Laws.Facts.Safe, Laws.Facts.Sound, Laws.Facts.not-restoring, Laws.Lists.in-map, Laws.Lists.is-some, Laws.Lists.map-in, Laws.Nodes.at-other, Laws.Nodes.at-set, Laws.Nodes.at-set-other, Laws.Nodes.present-lt, Laws.Order.apart-of, Laws.Order.ordered-all, Laws.Order.ordered-append, Laws.Phases.active-installed, Laws.Phases.active-stays, Laws.Phases.inactive-stays, Laws.Records.declaration-is, Laws.Refusals.Passed, Laws.Resolution.Resolved, Laws.Resolution.Targeted, Laws.Resolution.target-covers, Laws.Resolution.target-needed, Laws.Resolution.target-resolved, Laws.Resolution.targeted, Laws.Update.Serves, Laws.Update.Stands, Laws.Update.calm, Laws.Update.safe-links, Laws.Update.safe-update}
+use Rattle.model.proofs.{Laws.Booleans.clash, Laws.Booleans.not-f, Laws.Facts.Covered, Laws.Facts.DeadOk, Laws.Facts.Fits, Laws.Facts.Linked, Laws.Facts.LiveOk, Laws.Facts.Safe, Laws.Facts.Sound, Laws.Facts.Stored, Laws.Facts.not-restoring, Laws.Lists.in-map, Laws.Lists.is-some, Laws.Lists.map-in, Laws.Nodes.at-other, Laws.Nodes.at-set, Laws.Nodes.at-set-other, Laws.Nodes.present-lt, Laws.Order.apart-of, Laws.Order.ordered-all, Laws.Order.ordered-append, Laws.Phases.active-installed, Laws.Phases.active-stays, Laws.Phases.inactive-stays, Laws.Records.declaration-is, Laws.Refusals.Passed, Laws.Resolution.Resolved, Laws.Resolution.Targeted, Laws.Resolution.target-covers, Laws.Resolution.target-needed, Laws.Resolution.target-resolved, Laws.Resolution.targeted, Laws.Update.Serves, Laws.Update.Stands, Laws.Update.calm, Laws.Update.safe-links, Laws.Update.safe-update, Laws.Update.stored-update}
 
 module _ (S : Sizes) (T : Tables) (id : ℕ) (bs : List Binding) (k : Sound S T) (t : Targeted T id bs) (q : isInactive ((nodeAt (T .nodes) id) .phase) ≡ true) where
   abbrev started : Node
@@ -70,6 +70,15 @@ module _ (S : Sizes) (T : Tables) (id : ℕ) (bs : List Binding) (k : Sound S T)
           let c : Linked (T .links) (ownerIn d) (declaredPort d) = k .covered d m p (rw (e, present) at a) (rw (e, notInactive) at b) in
           record { link = c .link; among = Memᴰ·append-left fresh (c .among); is-live = c .is-live; of-consumer = c .of-consumer; of-port = c .of-port }
 
+  begin-stored : Stored (set (T .nodes) id started) (T .links ++ fresh)
+  begin-stored =
+      let s = stored-update (T .nodes) (T .links) id started (present-lt (T .nodes) id (t .there)) (k .stored) (λ a. clash _ (t .there) a) in
+      record { dead = λ l m. go s l (List·Memᴰ·append-cases (T .links) m); absent = s .absent }
+    where
+      go : Stored (set (T .nodes) id started) (T .links) → (l : Link) → List·Memᴰ l (T .links) ⊎ List·Memᴰ l fresh → DeadOk (set (T .nodes) id started) l
+      go s l (inl m) = s .dead l m
+      go s l (inr m) = let (b, n, e) = in-map (liveLink id) bs m in λ v. clash true refl (sym (ap (λ (z : Link). z .live) e) ∙ v)
+
   begin-fits : length (T .links) + length bs ≤ S .links → Fits S (withLinks (withNode T id started) (T .links ++ fresh))
   begin-fits f = record { nodes = rw (length-set (T .nodes) id started) (k .sizes .nodes); declarations = k .sizes .declarations; links = rw (length-append (T .links) fresh, length-map bs (liveLink id)) f }
 
@@ -78,4 +87,4 @@ begun-sound S T id k p =
     let (bs, e) = is-some (targetList (target T id)) (p .1 .1 .1 .1 .0) in
     let t : Targeted T id bs = targeted T id bs e in
     let q : isInactive ((nodeAt (T .nodes) id) .phase) ≡ true = not-f _ (p .1 .0) in
-    rw e (record { sizes = begin-fits S T id bs k t q (ltb-false _ _ (rw e at (p .1 .1 .1 .1 .1 .0))); safe = begin-safe S T id bs k t q; covered = begin-covered S T id bs k t q })
+    rw e (record { sizes = begin-fits S T id bs k t q (ltb-false _ _ (rw e at (p .1 .1 .1 .1 .1 .0))); safe = begin-safe S T id bs k t q; covered = begin-covered S T id bs k t q; stored = begin-stored S T id bs k t q })

@@ -1,7 +1,7 @@
 -- finish_cleanup keeps soundness: the links of the consumer become dead.
-use Rattle.model.proofs.Logic.{List, List·Memᴰ, _<_, _∙_, _≡_, ap, arith, eq-eqb, false, length, length-map, length-set, map, ne-eqb, not, refl, sym, true, ℕ}
-use Rattle.model.specs.{Lifecycle.cleanupFinished, Lifecycle.finishCleanupTests, Records.consumerIn, Records.deadFor, Records.declaredPort, Records.isInactive, Records.ownerIn, Records.restoredNode, Sizes.Sizes, Soundness.apart, Tables.Tables, Tables.nodeAt, Tables.notInactive, Tables.present, Tables.withLinks, Tables.withNode, declared.Port.Port, declared.records.Link.Link, declared.records.Node.Node}
-use Rattle.model.proofs.{Laws.Booleans.and-i, Laws.Booleans.and-l, Laws.Booleans.and-r, Laws.Booleans.clash, Laws.Booleans.f-not, Laws.Booleans.not-f, Laws.Booleans.not-t, Laws.Facts.Covered, Laws.Facts.Linked, Laws.Facts.Safe, Laws.Facts.Sound, Laws.Lists.in-map, Laws.Lists.map-in, Laws.Nodes.at-set, Laws.Nodes.at-set-other, Laws.Nodes.present-lt, Laws.Order.apart-of, Laws.Order.of-apart, Laws.Order.ordered-map, Laws.Refusals.Passed, Laws.Update.safe-links, Laws.Update.safe-update}
+use Rattle.model.proofs.Logic.{List, List·Memᴰ, _<_, _∙_, _≡_, _⊎_, ap, arith, eq-eqb, false, inl, inr, length, length-map, length-set, map, ne-eqb, not, refl, sym, true, ℕ}
+use Rattle.model.specs.{Lifecycle.cleanupFinished, Lifecycle.finishCleanupTests, Records.consumerIn, Records.deadFor, Records.declaredPort, Records.isInactive, Records.ownerIn, Records.providerIn, Records.restoredNode, Sizes.Sizes, Soundness.apart, Tables.Tables, Tables.nodeAt, Tables.notInactive, Tables.present, Tables.withLinks, Tables.withNode, declared.Port.Port, declared.records.Link.Link, declared.records.Node.Node}
+use Rattle.model.proofs.{Laws.Booleans.and-i, Laws.Booleans.and-l, Laws.Booleans.and-r, Laws.Booleans.cases, Laws.Booleans.clash, Laws.Booleans.f-not, Laws.Booleans.not-f, Laws.Booleans.not-t, Laws.Facts.Covered, Laws.Facts.Linked, Laws.Facts.Safe, Laws.Facts.Sound, Laws.Facts.Stored, Laws.Lists.in-map, Laws.Lists.map-in, Laws.Nodes.at-set, Laws.Nodes.at-set-other, Laws.Nodes.present-lt, Laws.Order.apart-of, Laws.Order.of-apart, Laws.Order.ordered-map, Laws.Refusals.Passed, Laws.Update.safe-links, Laws.Update.safe-update, Laws.Update.stored-update}
 
 pub dead-live : (id : ℕ) (l : Link) → (deadFor id l) .live ≡ true → (l .live ≡ true) × (consumerIn l ≡ id → ⊥)
 dead-live id l h = (and-l (l .live) _ h, λ e. clash {A = ⊥} _ (eq-eqb (consumerIn l) id e) (not-t _ (and-r (l .live) _ h)))
@@ -36,6 +36,14 @@ module _ (S : Sizes) (T : Tables) where
       let b′ : other (ownerIn d) = at-set-other (λ i n. not (isInactive (n .phase)) ≡ true → other i) (T .nodes) id n lt (λ x. clash false x refl) (λ i ne x. (ne, x)) (ownerIn d) b in
       dead-linked id (ownerIn d) (declaredPort d) (b′ .0) (k .covered d m q a′ (b′ .1))
 
+  -- a link that is dead was so, or was live, and then its ends were present
+  dead-stored : (id : ℕ) → Sound S T → Stored (T .nodes) (map (deadFor id) (T .links))
+  dead-stored id k = record { dead = λ l m. let (o, n, e) = in-map (deadFor id) (T .links) m in rw e (λ v. ends o n (cases (o .live))); absent = k .stored .absent }
+    where
+      ends : (o : Link) → List·Memᴰ o (T .links) → (o .live ≡ true) ⊎ (o .live ≡ false) → (consumerIn o < length (T .nodes)) × (providerIn o < length (T .nodes))
+      ends o n (inl v) = (present-lt _ _ (k .safe .live o n v .consumer-present), present-lt _ _ (k .safe .live o n v .provider-present))
+      ends o n (inr v) = k .stored .dead o n v
+
   pub cleanupFinished-sound : (id : ℕ) → Sound S T → Passed (finishCleanupTests T id) → Sound S (cleanupFinished T id)
   cleanupFinished-sound id k p =
       let n : Node = nodeAt (T .nodes) id in
@@ -59,4 +67,5 @@ module _ (S : Sizes) (T : Tables) where
           provides = λ l m v e. clash _ r (rw e at (dead-safe id (k .safe) .live l m v .provider-kept));
         });
         covered = λ d m q a b. dead-covered id k t d m q a b;
+        stored = stored-update (T .nodes) L id (restoredNode n) (present-lt _ _ t) (dead-stored id k) (λ a. clash _ t a);
       }

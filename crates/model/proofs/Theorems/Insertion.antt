@@ -1,7 +1,7 @@
 -- Insertion keeps soundness.
 use Rattle.model.proofs.Logic.{List, List·Memᴰ, List·Memᴰ·append-cases, Memᴰ·append-left, [], _++_, _+_, _<_, _||_, _∙_, _∷_, _≡_, _≤_, _⊎_, ap, arith, false, getD-append-seam, inl, inr, leb-false, length, length-append, length-map, lt-ltb, ltb, ltb-false, map, not, refl, sym, true, ℕ}
 use Rattle.model.specs.{Insertion.insertTests, Insertion.inserted, Insertion.parentPresent, Interface.distinct, Interface.listed, Interface.taken, Lists.any, Records.bindingIn, Records.blankNode, Records.consumerIn, Records.declaredPort, Records.dependency, Records.isInactive, Records.newNode, Records.ownerIn, Records.parentIn, Records.providerIn, Records.provision, Sizes.Sizes, Soundness.parentOk, Tables.Tables, Tables.nodeAt, Tables.notInactive, Tables.present, declared.Parent.Parent, declared.Port.Port, declared.PortList.PortList, declared.records.Declaration.Declaration, declared.records.Node.Node}
-use Rattle.model.proofs.{Laws.Booleans.and-i, Laws.Booleans.clash, Laws.Booleans.not-f, Laws.Booleans.or-f-r, Laws.Facts.Linked, Laws.Facts.LiveOk, Laws.Facts.NodeOk, Laws.Facts.Sound, Laws.Lists.in-map, Laws.Lists.none-in, Laws.Nodes.at-snoc, Laws.Nodes.old-at, Laws.Nodes.parent-kept, Laws.Nodes.present-lt, Laws.Records.parent-read, Laws.Refusals.Passed, Theorems.Interface.not-taken}
+use Rattle.model.proofs.{Laws.Booleans.and-i, Laws.Booleans.clash, Laws.Booleans.not-f, Laws.Booleans.or-f-r, Laws.Facts.AbsentOk, Laws.Facts.Linked, Laws.Facts.LiveOk, Laws.Facts.NodeOk, Laws.Facts.Sound, Laws.Lists.in-map, Laws.Lists.none-in, Laws.Nodes.at-snoc, Laws.Nodes.old-at, Laws.Nodes.parent-kept, Laws.Nodes.present-lt, Laws.Records.parent-read, Laws.Refusals.Passed, Theorems.Interface.not-taken}
 
 module _ (S : Sizes) (T : Tables) where
   parent-present-ok : (q : Parent) → parentPresent T q ≡ true → (ms : List Node) → ((i : ℕ) → present (T .nodes) i ≡ true → present ms i ≡ true) → parentOk ms (length (T .nodes)) q ≡ true
@@ -47,6 +47,7 @@ module _ (S : Sizes) (T : Tables) where
       order = k .safe .order;
     };
     covered = λ d m p a b. cov d (List·Memᴰ·append-cases (T .declarations) m) p a b;
+    stored = record { dead = λ l m v. let (c, p) = k .stored .dead l m v in (longer c, longer p); absent = at-snoc AbsentOk (T .nodes) (newNode par) (λ a. clash true refl a) (k .stored .absent) };
   }
     where
       id : ℕ
@@ -61,6 +62,9 @@ module _ (S : Sizes) (T : Tables) where
       news : List Declaration
       news = map (dependency id) ps ++ map (provision id) qs
 
+      longer : {i : ℕ} → i < length (T .nodes) → i < length ms
+      longer l = rw (length-append (T .nodes) (newNode par ∷ [])) (omega arith)
+
       same : (i : ℕ) → present (T .nodes) i ≡ true → nodeAt ms i ≡ nodeAt (T .nodes) i
       same i a = old-at (T .nodes) (newNode par) i (present-lt _ _ a)
 
@@ -72,7 +76,7 @@ module _ (S : Sizes) (T : Tables) where
           go (inr n) = let (p, x, e) = in-map (provision id) qs n in (ap ownerIn e, λ a. (p, x, ap declaredPort e))
 
       own : (d : Declaration) → List·Memᴰ d (T .declarations) ⊎ List·Memᴰ d news → ownerIn d < length ms
-      own d (inl m) = rw (length-append (T .nodes) (newNode par ∷ [])) (omega (arith, k .safe .owners d m))
+      own d (inl m) = longer (k .safe .owners d m)
       own d (inr m) = rw (length-append (T .nodes) (newNode par ∷ [])) (omega (arith, (is-new d m) .0))
 
       -- an old declaration's owner is present before

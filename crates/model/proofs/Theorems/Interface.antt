@@ -34,6 +34,7 @@ module _ (S : Sizes) (T : Tables) where
         (λ d e m n a b x y r. one d e (List·Memᴰ·append-cases (T .declarations) m) (List·Memᴰ·append-cases (T .declarations) n) a b x y r)
         (λ l m v. (Memᴰ·append-left _ (k .safe .live l m v .needed), Memᴰ·append-left _ (k .safe .live l m v .offered)));
     covered = λ d m n a b. cov d (List·Memᴰ·append-cases (T .declarations) m) n a b;
+    stored = k .stored;
   }
     where
       ds : List Declaration
@@ -87,6 +88,7 @@ module _ (S : Sizes) (T : Tables) where
         (λ d e m n a b x y r. k .safe .unique d e (prov d a (which m)) (prov e b (which n)) a b x y r)
         linked;
     covered = λ d m n a b. cov d (which m) n a b;
+    stored = k .stored;
   }
     where
       ds : List Declaration

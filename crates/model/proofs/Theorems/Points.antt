@@ -1,7 +1,7 @@
--- The test of soundness is the rules' six points, both ways; and that of a kernel its counts, its blanks and these.
-use Rattle.model.proofs.Logic.{Bool, List, List·Memᴰ, [], _&&_, _<_, _↔_, _∙_, _∷_, _≡_, arith, decLt, drop, false, getD, length, lt-ltb, ltb, ltb-true, not, refl, suc, sym, true, zero, ℕ}
-use Rattle.model.specs.{Layouts.Layout, Layouts.soundKernel, Layouts.tablesOf, Lifecycle.phaseAt, Lists.all, Points.At, Points.BlankPast, Points.Installed, Points.KernelPoints, Points.Points, Points.Present, Points.Restoring, Points.Within, Records.bindingIn, Records.blankDeclaration, Records.blankLink, Records.blankNode, Records.consumerIn, Records.isBlankDeclaration, Records.isBlankLink, Records.isBlankNode, Records.isInactive, Records.parentIn, Records.providerIn, Sizes.Sizes, Soundness.apart, Soundness.fits, Soundness.parentOk, Soundness.safetyWf, Soundness.sound, Soundness.wf, Tables.Tables, Tables.nodeAt, Tables.notInactive, Tables.present, declared.Parent.Parent, declared.Phase.Phase, declared.records.Link.Link, declared.records.Node.Node}
-use Rattle.model.proofs.{Laws.Blanks.blank-declaration, Laws.Blanks.blank-link, Laws.Blanks.blank-node, Laws.Booleans.and-i, Laws.Booleans.and-l, Laws.Booleans.and-r, Laws.Booleans.clash, Laws.Booleans.not-t, Laws.Facts.Covered, Laws.Facts.Fits, Laws.Facts.LiveOk, Laws.Facts.NodeOk, Laws.Facts.Safe, Laws.Facts.blank-ok, Laws.Facts.covered-of, Laws.Facts.fits-of, Laws.Facts.of-covered, Laws.Facts.of-fits, Laws.Facts.of-safe, Laws.Facts.safe-of, Laws.Lists.at-in, Laws.Lists.at-onward, Laws.Lists.getD-any, Laws.Lists.in-at, Laws.Lists.onward-at, Laws.Nodes.past-blank, Laws.Nodes.present-lt, Laws.Order.apart-of, Laws.Order.of-apart, Laws.Phases.inactive-is, Laws.Phases.unloading-is, Theorems.Layouts.Laid, Theorems.Layouts.laid-of, Theorems.Layouts.of-laid}
+-- The test of soundness is the rules' eight points, both ways; and that of a kernel its counts, its blanks and these.
+use Rattle.model.proofs.Logic.{Bool, List, List·Memᴰ, [], _&&_, _<_, _↔_, _∙_, _∷_, _≡_, _⊎_, arith, decLt, drop, false, getD, inl, inr, length, lt-ltb, ltb, ltb-true, not, refl, suc, sym, true, zero, ℕ}
+use Rattle.model.specs.{Layouts.Layout, Layouts.soundKernel, Layouts.tablesOf, Lifecycle.phaseAt, Lists.all, Points.At, Points.BlankPast, Points.Installed, Points.Issued, Points.KernelPoints, Points.Points, Points.Present, Points.Restoring, Points.Within, Records.bindingIn, Records.blankDeclaration, Records.blankLink, Records.blankNode, Records.consumerIn, Records.isBlankDeclaration, Records.isBlankLink, Records.isBlankNode, Records.isInactive, Records.parentIn, Records.providerIn, Sizes.Sizes, Soundness.apart, Soundness.eightPoints, Soundness.fits, Soundness.parentOk, Soundness.safetyWf, Soundness.smaller, Soundness.sound, Soundness.wf, Tables.Tables, Tables.nodeAt, Tables.notInactive, Tables.present, declared.Parent.Parent, declared.Phase.Phase, declared.records.Link.Link, declared.records.Node.Node}
+use Rattle.model.proofs.{Laws.Blanks.blank-declaration, Laws.Blanks.blank-link, Laws.Blanks.blank-node, Laws.Booleans.and-i, Laws.Booleans.and-l, Laws.Booleans.and-r, Laws.Booleans.cases, Laws.Booleans.clash, Laws.Booleans.not-t, Laws.Facts.AbsentOk, Laws.Facts.Covered, Laws.Facts.Fits, Laws.Facts.LiveOk, Laws.Facts.NodeOk, Laws.Facts.Safe, Laws.Facts.Stored, Laws.Facts.blank-ok, Laws.Facts.covered-of, Laws.Facts.fits-of, Laws.Facts.of-covered, Laws.Facts.of-fits, Laws.Facts.of-safe, Laws.Facts.of-stored, Laws.Facts.safe-of, Laws.Facts.stored-of, Laws.Lists.at-in, Laws.Lists.at-onward, Laws.Lists.getD-any, Laws.Lists.in-at, Laws.Lists.onward-at, Laws.Nodes.past-blank, Laws.Nodes.present-lt, Laws.Order.apart-of, Laws.Order.of-apart, Laws.Phases.inactive-is, Laws.Phases.unloading-is, Theorems.Layouts.Laid, Theorems.Layouts.laid-of, Theorems.Layouts.of-laid}
 
 -- ---- nodes by place and by identity
 
@@ -37,7 +37,7 @@ module _ (T : Tables) where
 
 -- ---- from the test
 
-module _ (T : Tables) (k : Safe T) (c : Covered T) where
+module _ (T : Tables) (k : Safe T) (c : Covered T) (s : Stored (T .nodes) (T .links)) where
   node-ok : (i : ℕ) (n : Node) → At (T .nodes) i n → NodeOk (T .nodes) i n
   node-ok i n a = rw (at-node (T .nodes) i n a) at (k .nodes i)
 
@@ -54,6 +54,9 @@ module _ (T : Tables) (k : Safe T) (c : Covered T) where
   earlier i j l m a b v w e (yes x) = x
   earlier i j l m a b v w e (no x) = absurd (of-apart l m (rw (a .1, b .1) at (onward-at apart (T .links) (k .order) i j l m (omega arith) (b .0))) v w e)
 
+  absent-parent : (i p : ℕ) (o : Parent) → smaller i o ≡ true → o ≡ Parent.Of p → p < i
+  absent-parent i p o h e = ltb-true p i (rw e at h)
+
   points : Points T
   points = record {
     owners = λ i d a. k .owners d (at-in _ i d a);
@@ -66,6 +69,8 @@ module _ (T : Tables) (k : Safe T) (c : Covered T) where
     declared = λ i l a v. (in-at (live-at i l a v .needed), in-at (live-at i l a v .offered));
     order = λ i j l m a b v w e. earlier i j l m a b v w e (decLt j i);
     covered = λ i d a p x. let o = c d (at-in _ i d a) p (to-present T _ (x .0, x .1, x .2)) (to-installed T _ x) in (o .link, in-at (o .among), o .is-live, o .of-consumer, o .of-port);
+    dead = λ i l a v. s .dead l (at-in _ i l a) v;
+    absent-parents = λ i p n a h e. absent-parent i p (parentIn n) ((rw (at-node (T .nodes) i n a) at (s .absent i)) h) e;
   }
 
 -- ---- to the test
@@ -121,21 +126,49 @@ module _ (T : Tables) (k : Points T) where
   covers : Covered T
   covers d m p x y = let (i, a) = in-at m in let (l, b, v, e, f) = k .covered i d a p (of-installed T _ x y) in record { link = l; among = at-in _ (b .0) l (b .1); is-live = v; of-consumer = e; of-port = f }
 
+  smaller-of : (i : ℕ) (o : Parent) → ((p : ℕ) → o ≡ Parent.Of p → p < i) → smaller i o ≡ true
+  smaller-of i Parent.None f = refl
+  smaller-of i (Parent.Of p) f = lt-ltb _ _ (f p refl)
+
+  stored : Stored (T .nodes) (T .links)
+  stored = record { dead = λ l m v. let (i, a) = in-at m in k .dead i l a v; absent = λ i. absent i (decLt i (length (T .nodes))) }
+    where
+      absent : (i : ℕ) → Dec (i < length (T .nodes)) → AbsentOk i (nodeAt (T .nodes) i)
+      absent i (yes l) = λ h. smaller-of i _ (λ p e. k .absent-parents i p _ (node-at (T .nodes) i l) h e)
+      absent i (no l) = rw (past-blank (T .nodes) i (omega arith)) (λ h. refl)
+
 -- ---- both ways
 
-pub wf-points : (T : Tables) → (wf T ≡ true) ↔ Points T
-unfolding wf
-wf-points T = (λ h. points T (safe-of T (and-l (safetyWf T) _ h)) (covered-of T (and-r (safetyWf T) _ h)), λ k. and-i (safetyWf T) _ (of-safe T (safe T k)) (of-covered T (covers T k)))
+pub eight-points : (T : Tables) → (eightPoints T ≡ true) ↔ Points T
+unfolding eightPoints wf
+eight-points T = (to, λ k. and-i (wf T) _ (and-i (safetyWf T) _ (of-safe T (safe T k)) (of-covered T (covers T k))) (of-stored T (stored T k)))
+  where
+    to : eightPoints T ≡ true → Points T
+    to h =
+        let w : wf T ≡ true = and-l (wf T) _ h in
+        points T (safe-of T (and-l (safetyWf T) _ w)) (covered-of T (and-r (safetyWf T) _ w)) (stored-of T (and-r (wf T) _ h))
 
 pub sound-points : (S : Sizes) (T : Tables) → (sound S T ≡ true) ↔ (Within S T × Points T)
 unfolding sound
 sound-points S T = (to, of)
   where
     to : sound S T ≡ true → Within S T × Points T
-    to h = let f : Fits S T = fits-of S T (and-l (fits S T) _ h) in ((f .nodes, f .declarations, f .links), wf-points T .0 (and-r (fits S T) _ h))
+    to h = let f : Fits S T = fits-of S T (and-l (fits S T) _ h) in ((f .nodes, f .declarations, f .links), eight-points T .0 (and-r (fits S T) _ h))
 
     of : Within S T × Points T → sound S T ≡ true
-    of (w, k) = and-i (fits S T) _ (of-fits S T (record { nodes = w .0; declarations = w .1; links = w .2 })) (wf-points T .1 k)
+    of (w, k) = and-i (fits S T) _ (of-fits S T (record { nodes = w .0; declarations = w .1; links = w .2 })) (eight-points T .1 k)
+
+-- what points 7 and 8 add: nothing is stored that was not issued
+pub stored-issued : (T : Tables) → Points T → Issued T
+stored-issued T k = record { owners = k .owners; ends = λ i l a. ends i l a (cases (l .live)); parents = λ i p n a e. parents i p n a e (cases (n .present)) }
+  where
+    ends : (i : ℕ) (l : Link) → At (T .links) i l → (l .live ≡ true) ⊎ (l .live ≡ false) → (consumerIn l < length (T .nodes)) × (providerIn l < length (T .nodes))
+    ends i l a (inl v) = let (x, y) = k .ends i l a v in (x .1 .0, y .1 .0)
+    ends i l a (inr v) = k .dead i l a v
+
+    parents : (i p : ℕ) (n : Node) → At (T .nodes) i n → parentIn n ≡ Parent.Of p → (n .present ≡ true) ⊎ (n .present ≡ false) → p < i
+    parents i p n a e (inl h) = (k .parents i p n a h e) .1
+    parents i p n a e (inr h) = k .absent-parents i p n a h e
 
 -- ---- a kernel
 
@@ -166,7 +199,7 @@ kernel-points S k = (to, of)
       blank-nodes = past-blanks isBlankNode blankNode blank-node _ _ (l .blank-nodes);
       blank-declarations = past-blanks isBlankDeclaration blankDeclaration blank-declaration _ _ (l .blank-declarations);
       blank-links = past-blanks isBlankLink blankLink blank-link _ _ (l .blank-links);
-      points = wf-points (tablesOf k) .0 (l .points);
+      points = eight-points (tablesOf k) .0 (l .points);
     }
 
     of : KernelPoints S k → soundKernel S k ≡ true
@@ -177,5 +210,5 @@ kernel-points S k = (to, of)
       blank-nodes = blanks-past isBlankNode blankNode refl _ _ (p .blank-nodes);
       blank-declarations = blanks-past isBlankDeclaration blankDeclaration refl _ _ (p .blank-declarations);
       blank-links = blanks-past isBlankLink blankLink refl _ _ (p .blank-links);
-      points = wf-points (tablesOf k) .1 (p .points);
+      points = eight-points (tablesOf k) .1 (p .points);
     })

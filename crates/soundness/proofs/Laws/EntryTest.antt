@@ -1,9 +1,9 @@
 -- The entry test: what each scan answers decides soundness, or leaves it to the scans after it.
 use Rattle.model.proofs.Logic.{Bool, List, _&&_, _∙_, _≡_, _≤_, ap, arith, drop, false, leb, leb-true, length, length-take-le, map, refl, sym, take, true, ℕ}
-use Rattle.model.specs.{Layouts.Layout, Layouts.Sized, Layouts.soundKernel, Layouts.tablesOf, Lists.all, Lists.allAt, Records.blankNode, Records.isBlankDeclaration, Records.isBlankLink, Records.isBlankNode, Records.isInstalled, Records.isServing, Sizes.Sizes, Soundness.coverage, Soundness.hasOwner, Soundness.isCovered, Soundness.linkOk, Soundness.nodeOk, Soundness.ordered, Soundness.sameOwner, Tables.Tables, Tables.installed, Tables.nodeAt, Tables.present, Tables.serving, declared.records.Declaration.Declaration, declared.records.Node.Node}
+use Rattle.model.specs.{Layouts.Layout, Layouts.Sized, Layouts.soundKernel, Layouts.tablesOf, Lists.all, Lists.allAt, Records.blankNode, Records.isBlankDeclaration, Records.isBlankLink, Records.isBlankNode, Records.isInstalled, Records.isServing, Sizes.Sizes, Soundness.absentOk, Soundness.coverage, Soundness.deadOk, Soundness.hasOwner, Soundness.isCovered, Soundness.linkOk, Soundness.nodeOk, Soundness.ordered, Soundness.sameOwner, Tables.Tables, Tables.installed, Tables.nodeAt, Tables.present, Tables.serving, declared.records.Declaration.Declaration, declared.records.Node.Node}
 use Rattle.model.proofs.{Laws.Booleans.and-i, Laws.Booleans.and-l, Laws.Booleans.and-r, Laws.Pieces.sound-rest, Laws.Pieces.unsound-by}
-use Rattle.loops.proofs.{Laws.Flags.flag-nodes}
-use Rattle.loops.specs.{Columns.flag}
+use Rattle.loops.proofs.{Laws.Flags.flag-nodes, Laws.Passes.all-both, Laws.Passes.allAt-both}
+use Rattle.loops.specs.{Columns.flag, Passes.linkPasses, Passes.nodePasses}
 
 -- ---- the tests, as the scans answer them
 
@@ -11,11 +11,11 @@ abbrev pub countsPass : Sizes → Layout → Bool
 countsPass S k = leb (k .nodeCount) (S .identities) && leb (k .declarationCount) (S .declarations) && leb (k .linkCount) (S .links)
 
 abbrev pub nodesPass : Layout → Bool
-nodesPass k = allAt (nodeOk (take (k .nodeCount) (k .nodes))) 0 (take (k .nodeCount) (k .nodes)) && all isBlankNode (drop (k .nodeCount) (k .nodes))
+nodesPass k = allAt (nodePasses (take (k .nodeCount) (k .nodes))) 0 (take (k .nodeCount) (k .nodes)) && all isBlankNode (drop (k .nodeCount) (k .nodes))
 
 -- the links, by columns of installed and serving nodes and by declarations: each by itself, their order, and those past the count
 abbrev pub linksPass : Layout → (ℕ → Bool) → (ℕ → Bool) → List Declaration → Bool
-linksPass k inst serv D = (all (linkOk inst serv D) (take (k .linkCount) (k .links)) && ordered (take (k .linkCount) (k .links))) && all isBlankLink (drop (k .linkCount) (k .links))
+linksPass k inst serv D = (all (linkPasses (k .nodeCount) inst serv D) (take (k .linkCount) (k .links)) && ordered (take (k .linkCount) (k .links))) && all isBlankLink (drop (k .linkCount) (k .links))
 
 -- counts and nodes passed; columns of what is asked of each node, and the declarations below the count
 pub record Scanned (S : Sizes) (k : Layout) (here inst serv : List Bool) (D : List Declaration) : Type 0 where
@@ -38,7 +38,9 @@ module _ (S : Sizes) (k : Layout) where
 
   pub nodes-fail : nodesPass k ≡ false → soundKernel S k ≡ false
   unfolding tablesOf
-  nodes-fail h = unsound-by S k _ h (λ q. and-i _ _ (q .safety .1 .1 .0) (q .layout .1 .1 .1 .0))
+  nodes-fail h = unsound-by S k _ h (λ q.
+      let both = allAt-both (nodeOk (take (k .nodeCount) (k .nodes))) absentOk 0 (take (k .nodeCount) (k .nodes)) ∙ and-i _ _ (q .safety .1 .1 .0) (q .stored .1 .0) in
+      and-i _ _ both (q .layout .1 .1 .1 .0))
 
 module _ {S : Sizes} {k : Layout} (z : Sized S k) {here inst serv : List Bool} {D : List Declaration} (C : Scanned S k here inst serv D) where
   abbrev T : Tables
@@ -54,7 +56,16 @@ module _ {S : Sizes} {k : Layout} (z : Sized S k) {here inst serv : List Bool} {
   le = leb-true _ _ one
 
   blank : all isBlankNode (drop (k .nodeCount) (k .nodes)) ≡ true
-  blank = and-r (allAt (nodeOk (take (k .nodeCount) (k .nodes))) 0 (take (k .nodeCount) (k .nodes))) _ (C .nodes)
+  blank = and-r (allAt (nodePasses (take (k .nodeCount) (k .nodes))) 0 (take (k .nodeCount) (k .nodes))) _ (C .nodes)
+
+  -- both points of each node
+  nodes-are : allAt (nodeOk (T .nodes)) 0 (T .nodes) && allAt absentOk 0 (T .nodes) ≡ true
+  unfolding tablesOf
+  nodes-are = sym (allAt-both (nodeOk (T .nodes)) absentOk 0 (T .nodes)) ∙ and-l (allAt (nodePasses (T .nodes)) 0 (T .nodes)) _ (C .nodes)
+
+  count-is : length (T .nodes) ≡ k .nodeCount
+  unfolding tablesOf
+  count-is = length-take-le (k .nodeCount) (k .nodes) (omega (arith, le, z .nodes))
 
   column-is : (f : Node → Bool) (col : List Bool) → f blankNode ≡ false → col ≡ map f (k .nodes) → flag (S .identities) col ≡ (λ id. f (nodeAt (T .nodes) id))
   unfolding tablesOf
@@ -62,15 +73,17 @@ module _ {S : Sizes} {k : Layout} (z : Sized S k) {here inst serv : List Bool} {
 
   owners-are : all (hasOwner (k .nodeCount)) D ≡ all (hasOwner (length (T .nodes))) (T .declarations)
   unfolding tablesOf
-  owners-are = rw (length-take-le (k .nodeCount) (k .nodes) (omega (arith, le, z .nodes)), C .declarations)
+  owners-are = rw (count-is, C .declarations)
 
   one-is : all (λ d. all (sameOwner (flag (S .identities) here) d) D) D ≡ all (λ d. all (sameOwner (present (T .nodes)) d) (T .declarations)) (T .declarations)
   unfolding tablesOf
   one-is = rw (column-is (λ n. n .present) here refl (C .present), C .declarations)
 
-  links-are : all (linkOk (flag (S .identities) inst) (flag (S .identities) serv) D) (take (k .linkCount) (k .links)) ≡ all (linkOk (installed (T .nodes)) (serving (T .nodes)) (T .declarations)) (T .links)
+  -- and of each link
+  links-are : all (linkPasses (k .nodeCount) (flag (S .identities) inst) (flag (S .identities) serv) D) (take (k .linkCount) (k .links))
+      ≡ all (linkOk (installed (T .nodes)) (serving (T .nodes)) (T .declarations)) (T .links) && all (deadOk (length (T .nodes))) (T .links)
   unfolding tablesOf
-  links-are = rw (column-is isInstalled inst refl (C .installed), column-is isServing serv refl (C .serving), C .declarations)
+  links-are = rw (column-is isInstalled inst refl (C .installed), column-is isServing serv refl (C .serving), C .declarations, count-is) (all-both _ _ _ (λ l. refl) (T .links))
 
   cover-is : all (isCovered (flag (S .identities) inst) (take (k .linkCount) (k .links))) D ≡ coverage T
   unfolding tablesOf coverage
@@ -85,23 +98,24 @@ module _ {S : Sizes} {k : Layout} (z : Sized S k) {here inst serv : List Bool} {
       pub links-fail : r ≡ false → soundKernel S k ≡ false
       unfolding tablesOf
       links-fail h =
-          unsound-by S k _ h (λ q. re ∙ and-i _ _ (and-i _ _ (links-are ∙ q .safety .1 .1 .1 .0) (q .safety .1 .1 .1 .1 .0)) (q .layout .1 .1 .1 .1 .1 .0))
+          unsound-by S k _ h (λ q. re ∙ and-i _ _ (and-i _ _ (links-are ∙ and-i _ _ (q .safety .1 .1 .1 .0) (q .stored .0)) (q .safety .1 .1 .1 .1 .0)) (q .layout .1 .1 .1 .1 .1 .0))
 
       -- the dependencies decide
       pub covers : r ≡ true → soundKernel S k ≡ all (isCovered (flag (S .identities) inst) (take (k .linkCount) (k .links))) D
       unfolding tablesOf
       covers t =
-          let ok : Bool = all (linkOk (flag (S .identities) inst) (flag (S .identities) serv) D) (take (k .linkCount) (k .links)) in
+          let ok : Bool = all (linkPasses (k .nodeCount) (flag (S .identities) inst) (flag (S .identities) serv) D) (take (k .linkCount) (k .links)) in
           let or : Bool = ordered (take (k .linkCount) (k .links)) in
           let past : Bool = all isBlankLink (drop (k .linkCount) (k .links)) in
           let l : (ok && or) && past ≡ true = sym re ∙ t in
           let lo : ok && or ≡ true = and-l (ok && or) past l in
           let bo : b && o ≡ true = and-l (b && o) u ds in
           let within = and-r (leb (k .nodeCount) (S .identities) && leb (k .declarationCount) (S .declarations)) _ (C .counts) in
-          let nodes-ok = and-l (allAt (nodeOk (take (k .nodeCount) (k .nodes))) 0 (take (k .nodeCount) (k .nodes))) _ (C .nodes) in
+          let links-ok = sym links-are ∙ and-l ok or lo in
           sound-rest
           S
           k
           (one, (and-r (leb (k .nodeCount) (S .identities)) _ two, (within, (blank, (sym (A .blank) ∙ and-l b o bo, (and-r (ok && or) past l, tt))))))
-          (sym owners-are ∙ sym (A .owners) ∙ and-r b o bo, (sym one-is ∙ sym (A .one) ∙ and-r (b && o) u ds, (nodes-ok, (sym links-are ∙ and-l ok or lo, (and-r ok or lo, tt)))))
+          (sym owners-are ∙ sym (A .owners) ∙ and-r b o bo, (sym one-is ∙ sym (A .one) ∙ and-r (b && o) u ds, (and-l _ _ nodes-are, (and-l _ _ links-ok, (and-r ok or lo, tt)))))
+          (and-r (all (linkOk (installed (T .nodes)) (serving (T .nodes)) (T .declarations)) (T .links)) _ links-ok, (and-r (allAt (nodeOk (T .nodes)) 0 (T .nodes)) _ nodes-are, tt))
           ∙ sym cover-is

@@ -1,10 +1,10 @@
 -- `kernel::Kernel::begin` meets its contract. In the loop the array holds the links below the count and a live link for each of the first i bindings, then blanks.
 use Rattle.model.proofs.Logic.{List, [], _++_, _+_, _-_, _∙_, _≡_, _≤_, add-one, ap, append-nil, arith, eqb-false, getD, length, length-take-le, map, needs, some, sym, take, ℕ}
 use Rattle.kernel.specs.{Fields.layoutOf, Outcomes.Returns, declared.Kernel.Kernel}
-use Rattle.model.specs.{Commands.Command, Commands.tests, Layouts.tablesOf, Lists.padded, Records.blankBinding, Records.blankLink, Records.blankNode, Records.liveLink, Refusals.first, declared.Answer.Answer, declared.Binding.Binding, declared.Error.Error, declared.rows.Row.Row, declared.records.Link.Link, declared.records.Node.Node}
+use Rattle.model.specs.{Commands.Command, Commands.tests, Layouts.tablesOf, Lists.padded, Records.blankBinding, Records.blankLink, Records.blankNode, Records.liveLink, Refusals.first, declared.Answer.Answer, declared.Binding.Binding, declared.Error.Error, declared.records.Link.Link, declared.records.Node.Node, declared.rows.Row.Row}
 use Rattle.results.specs.{declared.TargetBindings.TargetBindings}
-use Rattle.kernel.proofs.{Kernel.begin.Statement.statement, Laws.Outcomes.hands-accepted, Laws.Outcomes.hands-damaged, Laws.Outcomes.hands-refused, Laws.Lengths.sized, Laws.Targets.held}
-use Rattle.layouts.proofs.{Laws.Nodes.Beginnable, Laws.Nodes.Tested, Laws.Nodes.array-tests, Laws.Nodes.beginnable, Laws.Nodes.is-present, Laws.Nodes.node-refuses, Laws.Nodes.past-unknown, Laws.Nodes.rest, Laws.Nodes.tested-array, Laws.Sound.SoundKernel, Laws.Sound.laid, Laws.Sound.links-laid, Laws.Sound.tested-sound, Laws.Targets.Held, Laws.Targets.begun-laid, Laws.Targets.space-none, Laws.Targets.space-some, Laws.Targets.target-missing, Laws.Targets.target-most, Laws.Targets.target-width}
+use Rattle.kernel.proofs.{Kernel.begin.Statement.statement, Laws.Lengths.sized, Laws.Outcomes.hands-accepted, Laws.Outcomes.hands-damaged, Laws.Outcomes.hands-refused, Laws.Stored.stored-link-is, Laws.Targets.held}
+use Rattle.layouts.proofs.{Laws.Nodes.Beginnable, Laws.Nodes.Tested, Laws.Nodes.array-tests, Laws.Nodes.beginnable, Laws.Nodes.below, Laws.Nodes.is-present, Laws.Nodes.node-refuses, Laws.Nodes.past-unknown, Laws.Nodes.rest, Laws.Nodes.tested-array, Laws.Sound.SoundKernel, Laws.Sound.laid, Laws.Sound.links-laid, Laws.Sound.tested-sound, Laws.Targets.Held, Laws.Targets.begun-laid, Laws.Targets.provider-below, Laws.Targets.space-none, Laws.Targets.space-some, Laws.Targets.target-missing, Laws.Targets.target-most, Laws.Targets.target-width}
 use Rattle.loops.proofs.{Laws.Edit.appended-next}
 use Rattle.model.proofs.{Laws.Refusals.of-passed, Laws.Refusals.skip, Laws.Refusals.stop}
 use Rattle.sizes.specs.{Sizes.LINKS, Sizes.sizes}
@@ -123,7 +123,7 @@ loop-again c =
     let z = K (e f) .sized .links in
     let n : length ls ≡ k (e f) .«link_count» = length-take-le _ (k (e f) .links) (omega arith) in
     let next = appended-next (liveLink (id (e f))) LINKS (k (e f) .«link_count») (j .i) blankLink (j .links) ls (r f .bindings) blankBinding n (omega arith) (omega arith) (j .inv .1) in
-    (omega arith, rw (c .live-link .ensures) next)
+    (omega arith, rw (stored-link-is (below (P (checked f))) (provider-below (H f) (j .i) (omega arith)) (c .live-link .ensures)) next)
 
 returns-6 : tie.Need-returns-6 Inv-loop μ-loop
 returns-6 c =

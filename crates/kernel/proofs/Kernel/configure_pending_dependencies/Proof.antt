@@ -57,7 +57,7 @@ module _ (g : tie.After-distinct-ports) where
   fits = full k (le-ltb _ _ (g .before .if1 .left))
 
 append-ports-requires : tie.Need-append-ports-requires
-append-ports-requires c κs = let f = c .before in (C (e f) .short .within, remaining-within (C (e f)) (rest f), holds-padded (rest f))
+append-ports-requires c κs = let f = c .before in (C (e f) .below, C (e f) .short .within, remaining-within (C (e f)) (rest f), holds-padded (rest f))
 
 -- over it
 returns : tie.Need-returns

@@ -1,9 +1,9 @@
 -- `kernel::Kernel::declare_provision` meets its contract.
-use Rattle.model.proofs.Logic.{Bool, [], _&&_, _∙_, _≡_, ap, false, le-leb, leb, length, lt-leb, needs, not, not-false, not-true, refl, true}
-use Rattle.layouts.proofs.{Laws.Declarations.declared-before, Laws.Declarations.declared-now, Laws.Declarations.own-is, Laws.Declarations.taken-is, Laws.Nodes.Tested, Laws.Nodes.rest, Laws.Nodes.tested, Laws.Sound.declaration-count-is}
-use Rattle.model.specs.{Commands.Command, Interface.own, Interface.taken, Layouts.tablesOf, Rows.nodeTests, Tables.Tables, declared.rows.Row.Row}
+use Rattle.model.proofs.Logic.{Bool, [], _&&_, _∙_, _≡_, ap, false, le-leb, leb, length, lt-leb, needs, not, not-false, not-true, refl, true, ℕ}
+use Rattle.layouts.proofs.{Laws.Declarations.declared-before, Laws.Declarations.declared-now, Laws.Declarations.own-is, Laws.Declarations.taken-is, Laws.Nodes.Tested, Laws.Nodes.below, Laws.Nodes.rest, Laws.Nodes.tested, Laws.Sound.declaration-count-is}
+use Rattle.model.specs.{Commands.Command, Interface.own, Interface.taken, Layouts.tablesOf, Records.provision, Rows.nodeTests, Tables.Tables, declared.rows.Row.Row}
 use Rattle.scans.specs.{declared.NodeFlags.NodeFlags}
-use Rattle.kernel.proofs.{Kernel.declare_provision.Statement.statement, Laws.Outcomes.answer-is, Laws.Outcomes.hands-accepted, Laws.Outcomes.hands-refusal, Laws.Outcomes.hands-refused, Laws.Lengths.sized}
+use Rattle.kernel.proofs.{Kernel.declare_provision.Statement.statement, Laws.Lengths.sized, Laws.Outcomes.answer-is, Laws.Outcomes.hands-accepted, Laws.Outcomes.hands-refusal, Laws.Outcomes.hands-refused, Laws.Stored.stored-is}
 use Rattle.kernel.specs.{Fields.layoutOf}
 use Rattle.layouts.specs.{Rows.ofNode}
 use Rattle.model.proofs.{Laws.Refusals.of-passed, Laws.Refusals.skip, Laws.Refusals.stop}
@@ -74,7 +74,7 @@ returns-3 c =
     let g = r .before .before in
     let d = e (n g) in
     let row = rest (P d) _ ∙ skip _ _ _ (other g (r .before .if2 .left)) ∙ skip _ _ _ (full g (lt-leb _ _ (r .if3 .left))) ∙ of-passed [] tt in
-    let done = hands-accepted (P d .kernel) (command (s d)) row _ (declared-now (P d .kernel) (s d .args .id) (s d .args .port) (new g) (r .if3 .left) (c .provision .ensures)) in
+    let done = hands-accepted (P d .kernel) (command (s d)) row _ (declared-now (P d .kernel) (s d .args .id) (s d .args .port) (new g) (r .if3 .left) (c .provision .ensures ∙ ap (λ (i : ℕ). provision i (s d .args .port)) (stored-is (below (P d))))) in
     answer-is (s d .args .self) (command (s d)) (d .enum-told .given .1) done
 
 returns-4 : tie.Need-returns-4

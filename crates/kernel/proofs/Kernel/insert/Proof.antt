@@ -1,10 +1,10 @@
 -- `kernel::Kernel::insert` meets its contract: what check_insert answers decides it.
 use Rattle.model.proofs.Logic.{_∙_, _≡_, ap, arith, needs, refl, sym}
 use Rattle.kernel.specs.{Fields.layoutOf, Outcomes.answerOf, Outcomes.insertOutcome, declared.Kernel.Kernel}
-use Rattle.kernel.proofs.{Kernel.insert.Statement.statement, Laws.Outcomes.insert-returned, Laws.Outcomes.inserts, Laws.Rows.insertion-row, Laws.Lengths.list-sized, Laws.Lengths.sized}
+use Rattle.kernel.proofs.{Kernel.insert.Statement.statement, Laws.Lengths.list-sized, Laws.Lengths.sized, Laws.Outcomes.insert-returned, Laws.Outcomes.inserts, Laws.Rows.insertion-row, Laws.Stored.stored-parent-is}
 use Rattle.layouts.proofs.{Laws.Declarations.Insertable, Laws.Declarations.insertable, Laws.Declarations.inserted-laid, Laws.Declarations.more-padded, Laws.Rows.done-row, Laws.Rows.done-sound, Laws.Rows.refused-whole, Laws.Sound.declarations-laid}
 use Rattle.model.proofs.{Laws.Refusals.Passed}
-use Rattle.model.specs.{Commands.Command, Insertion.insertTests, Layouts.Sized, Layouts.tablesOf, Refusals.Tests, Tables.Tables}
+use Rattle.model.specs.{Commands.Command, Insertion.insertTests, Layouts.Sized, Layouts.tablesOf, Records.newNode, Refusals.Tests, Tables.Tables}
 use Rattle.sizes.specs.{Sizes.sizes}
 use Rattle.kernel.proofs.Kernel.insert.Tie as tie
 
@@ -36,7 +36,7 @@ module _ (d : tie.After-enum-told) where
   passed : Passed (row at (tablesOf (layoutOf (k at))))
   passed = done-row (z at) (row at) _ (answered at) (d .enum-told .given .1)
 
-  I : Insertable sizes (layoutOf (k at)) (s at .args .dependencies) (s at .args .provisions)
+  I : Insertable sizes (layoutOf (k at)) (s at .args .parent) (s at .args .dependencies) (s at .args .provisions)
   I =
       let K = done-sound (z at) (row at) _ (answered at) (d .enum-told .given .1) in
       insertable K (s at .args .parent) (list-sized (s at .args .dependencies) (s at .good .1 .1 .0, tt)) (list-sized (s at .args .provisions) (s at .good .1 .1 .1 .0, tt)) passed
@@ -51,10 +51,10 @@ returns c = let a = c .before .before .before in insert-returned (k a) (command 
 
 append-ports-requires : tie.Need-append-ports-requires
 unfolding tablesOf
-append-ports-requires c κs = let i = I (c .before) in (i .short .0 .within, omega (arith, i .sum), sym (declarations-laid (i .kernel)))
+append-ports-requires c κs = let i = I (c .before) in (i .node, i .short .0 .within, omega (arith, i .sum), sym (declarations-laid (i .kernel)))
 
 append-ports-requires-2 : tie.Need-append-ports-requires-2
-append-ports-requires-2 c κs = let i = I (e c) in (i .short .1 .within, omega (arith, i .sum), more-padded (i .kernel) (i .short) _ (c .append-ports .ensures (omega (arith, i .sum))))
+append-ports-requires-2 c κs = let i = I (e c) in (i .node, i .short .1 .within, omega (arith, i .sum), more-padded (i .kernel) (i .short) _ (c .append-ports .ensures (omega (arith, i .sum))))
 
 returns-2 : tie.Need-returns-2
 returns-2 c =
@@ -63,7 +63,7 @@ returns-2 c =
     let d = e f in
     let i = I d in
     let o = s (at d) .args in
-    let laid = inserted-laid (i .kernel) (i .short) _ (f .append-ports .ensures (omega (arith, i .sum))) (g .append-ports2 .ensures (i .sum)) refl (i .node) (o .parent) (c .new-node .ensures) in
+    let laid = inserted-laid (i .kernel) (i .short) _ (f .append-ports .ensures (omega (arith, i .sum))) (g .append-ports2 .ensures (i .sum)) refl (i .node) (o .parent) (c .new-node .ensures ∙ ap newNode (stored-parent-is (o .parent) (i .parent))) in
     inserts (i .kernel) (o .parent) (o .dependencies) (o .provisions) (passed d) _ laid
 
 pub insert-spec : {M : Type 1} → statement M

@@ -3,7 +3,7 @@ use Rattle.model.proofs.Logic.{Bool, List, _++_, _-_, _<_, _∙_, _≡_, _≤_,
 use Rattle.model.specs.{Lists.padded, Records.blankDeclaration, Records.blankPort, Records.declarationOf, declared.Port.Port, declared.records.Declaration.Declaration}
 use Rattle.loops.proofs.{Laws.Edit.appended-next}
 use Rattle.loops.specs.{Limits.AtMost}
-use Rattle.kernel.proofs.{ports.append_ports.Statement.statement}
+use Rattle.kernel.proofs.{Laws.Stored.stored-is, ports.append_ports.Statement.statement}
 use Rattle.kernel.proofs.ports.append_ports.Tie as tie
 use Rattle.sizes.specs.{Sizes.DECLARATIONS}
 
@@ -26,7 +26,7 @@ abbrev μ-loop : tie.MeasureT-loop
 μ-loop count owner provides declarations₀ list end i₀ declarations i = end - i
 
 loop-holds : tie.Need-loop-holds Inv-loop μ-loop
-loop-holds c = let s = c .before in (omega arith, s .pre .2 ∙ ap (padded DECLARATIONS blankDeclaration) (sym (append-nil (take (s .args .count) (s .args .t1)))))
+loop-holds c = let s = c .before in (omega arith, s .pre .3 ∙ ap (padded DECLARATIONS blankDeclaration) (sym (append-nil (take (s .args .count) (s .args .t1)))))
 
 loop-again : tie.Need-loop-again Inv-loop μ-loop
 loop-again c =
@@ -39,7 +39,7 @@ loop-again c =
     let held : length before ≡ a .count = length-take-le (a .count) (a .t1) (omega arith) in
     let made = declarationOf (a .owner) (a .provides) in
     let next = appended-next made DECLARATIONS (a .count) (j .i) blankDeclaration (j .declarations) before (a .t4 .ports) blankPort held (omega arith) (omega arith) (j .inv .1) in
-    (omega arith, rw (c .declaration-of .ensures) next)
+    (omega arith, rw (c .declaration-of .ensures, stored-is (s .pre .0)) next)
 
 returns : tie.Need-returns Inv-loop μ-loop
 returns c fits =

@@ -8,5 +8,5 @@ returns-2 c = cc
 
 pub parent-in-spec : {M : Type 1} → statement M
 parent-in-spec = tie.close (tie.spec
-    (λ c. search needs) (λ c. search needs) (λ c. search needs)  -- enum-told, enum-known-stored, returns
+    (λ c. search needs) (λ c. search needs) (λ c. search needs) (λ c. search needs)  -- enum-told, enum-known-stored, cast-t5, returns
     returns-2)

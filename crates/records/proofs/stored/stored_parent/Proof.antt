@@ -8,5 +8,5 @@ returns-2 c = cc
 
 pub stored-parent-spec : {M : Type 1} → statement M
 stored-parent-spec = tie.close (tie.spec
-    (λ c. search needs) (λ c. search needs) (λ c. search needs)  -- enum-told, enum-known-parent, returns
+    (λ c. search needs) (λ c. search needs) (λ c κs. search needs) (λ c. search needs)  -- enum-told, enum-known-parent, byte-of-requires, returns
     returns-2)

@@ -1,8 +1,8 @@
 -- `soundness::points::link_ok` meets its contract.
-use Rattle.model.proofs.Logic.{Bool, List, _&&_, _<_, _∙_, _≡_, ap, false, getD, length-set, ltb-true, needs, not, not-false, not-true, refl, set, sym, take, true, ℕ}
+use Rattle.model.proofs.Logic.{Bool, List, _&&_, _<_, _∙_, _≡_, ap, false, getD, length-set, ltb, ltb-true, needs, not, not-false, not-true, refl, set, sym, take, true, ℕ}
 use Rattle.model.specs.{Records.consumerIn, Records.portIn, Records.providerIn, Soundness.declares, declared.records.Declaration.Declaration, declared.records.Link.Link}
 use Rattle.model.proofs.{Laws.Booleans.and-l, Laws.Booleans.and-r, Laws.Booleans.clash}
-use Rattle.loops.proofs.{Laws.Marking.dead-marked, Laws.Marking.dead-meets, Laws.Marking.dead-ok, Laws.Marking.ends-fail, Laws.Marking.ends-pass, Laws.Marking.live-marked, Laws.Marking.live-meets}
+use Rattle.loops.proofs.{Laws.Marking.dead-ends, Laws.Marking.dead-marked, Laws.Marking.dead-meets, Laws.Marking.ends-fail, Laws.Marking.ends-pass, Laws.Marking.live-marked, Laws.Marking.live-meets}
 use Rattle.loops.specs.{Columns.declarationAt, Columns.declarationsOf, Columns.flag}
 use Rattle.soundness.proofs.{points.link_ok.Statement.statement}
 use Rattle.soundness.proofs.points.link_ok.Tie as tie
@@ -22,30 +22,35 @@ module _ (s : tie.Start) where
   abbrev serves : ℕ → Bool
   serves = flag IDENTITIES (s .args .serving .now)
 
+-- the ends read
+module _ (r : tie.After-provider-in) where
+  abbrev asked : tie.Start
+  asked = r .before .before
+
+  consumer-is : r .before .consumer-in .result ≡ consumerIn (asked .args .link)
+  consumer-is = r .before .consumer-in .ensures
+
+  provider-is : r .provider-in .result ≡ providerIn (asked .args .link)
+  provider-is = r .provider-in .ensures
+
 -- a live link, its ends looked up
 module _ (v : tie.After-flag-at2) where
   abbrev read : tie.After-provider-in
-  read = v .before .before
+  read = v .before .before .before .before
 
   abbrev start : tie.Start
-  start = read .before .before .before .before
+  start = asked read
 
   abbrev link : Link
   link = start .args .link
 
   live : link .live ≡ true
-  live = not-false _ (read .before .before .if1 .left)
-
-  consumer-is : read .before .consumer-in .result ≡ consumerIn link
-  consumer-is = read .before .consumer-in .ensures
-
-  provider-is : read .provider-in .result ≡ providerIn link
-  provider-is = read .provider-in .ensures
+  live = not-false _ (v .before .before .if1 .left)
 
   ends : {b : Bool} → v .before .flag-at .result && v .flag-at2 .result ≡ b → installs start (consumerIn link) && serves start (providerIn link) ≡ b
   ends h =
-      let i = v .before .flag-at .ensures ∙ ap (installs start) consumer-is in
-      let o = v .flag-at2 .ensures ∙ ap (serves start) provider-is in
+      let i = v .before .flag-at .ensures ∙ ap (installs start) (consumer-is read) in
+      let o = v .flag-at2 .ensures ∙ ap (serves start) (provider-is read) in
       (λ k. sym i k && sym o k) ∙ h
 
 -- its ends pass
@@ -57,23 +62,27 @@ module _ (e : tie.Else2) where
   both = ends (e .before) (not-false _ (e .if2 .left))
 
   consumer-below : read (e .before) .before .consumer-in .result < IDENTITIES
-  consumer-below = rw (consumer-is (e .before)) (ltb-true _ IDENTITIES (and-l _ _ (and-l (installs s (consumerIn (s .args .link))) _ both)))
+  consumer-below = rw (consumer-is (read (e .before))) (ltb-true _ IDENTITIES (and-l _ _ (and-l (installs s (consumerIn (s .args .link))) _ both)))
 
   provider-below : read (e .before) .provider-in .result < IDENTITIES
-  provider-below = rw (provider-is (e .before)) (ltb-true _ IDENTITIES (and-l _ _ (and-r (installs s (consumerIn (s .args .link))) _ both)))
+  provider-below = rw (provider-is (read (e .before))) (ltb-true _ IDENTITIES (and-l _ _ (and-r (installs s (consumerIn (s .args .link))) _ both)))
 
 returns : tie.Need-returns
 returns c =
-    let s = c .before .before in
+    let r = c .before .before in
+    let s = asked r in
     let l = s .args .link in
     let t : l .live ≡ false = not-true _ (c .if1 .taken) in
-    (sym (dead-ok l t (installs s) (serves s) (declarations s) (s .args .seen .now)), λ h. (sym (dead-marked l t (s .args .seen .now)), s .pre .1, s .pre .2, λ i k. rw (dead-meets l t (row s i))))
+    let below : ℕ → Bool = λ i. ltb i (s .args .issued) in (
+      (λ j. below (consumer-is r j) && below (provider-is r j)) ∙ sym (dead-ends l t (s .args .issued) (installs s) (serves s) (declarations s) (s .args .seen .now)),
+      λ h. (sym (dead-marked l t (s .args .seen .now)), s .pre .1, s .pre .2, λ i k. rw (dead-meets l t (row s i))),
+    )
 
 returns-2 : tie.Need-returns-2
 returns-2 c =
     let v = c .before in
     let s = start v in
-    (sym (ends-fail (s .args .link) (live v) (installs s) (serves s) (declarations s) (s .args .seen .now) (ends v (not-true _ (c .if2 .taken)))), λ x. clash false x refl)
+    (sym (ends-fail (s .args .link) (live v) (s .args .issued) (installs s) (serves s) (declarations s) (s .args .seen .now) (ends v (not-true _ (c .if2 .taken)))), λ x. clash false x refl)
 
 returns-3 : tie.Need-returns-3
 returns-3 c =
@@ -82,12 +91,12 @@ returns-3 c =
     let a = s e .args in
     let l = a .link in
     let t = live (e .before) in
-    let from = consumer-is (e .before) in
-    let to = provider-is (e .before) in
+    let from = consumer-is (read (e .before)) in
+    let to = provider-is (read (e .before)) in
     let p = m .before .before .port-in .ensures in
     let want : m .meet .result ≡ declares (declarations (s e)) (consumerIn l) (portIn l) false = rw (from, p) at (m .meet .ensures .0) in
     let offer : c .before .declared .result ≡ declares (declarations (s e)) (providerIn l) (portIn l) true = rw (to, p) at (c .before .declared .ensures) in (
-      (λ j. (want j && offer j) && not (getD (set (a .seen .now) (to j) true) (from j) false)) ∙ sym (ends-pass l t (installs (s e)) (serves (s e)) (declarations (s e)) (a .seen .now) (both e)),
+      (λ j. (want j && offer j) && not (getD (set (a .seen .now) (to j) true) (from j) false)) ∙ sym (ends-pass l t (a .issued) (installs (s e)) (serves (s e)) (declarations (s e)) (a .seen .now) (both e)),
       λ x. (
         ap (λ (x : ℕ). set (a .seen .now) x true) to ∙ live-marked l t (a .seen .now),
         length-set (a .seen .now) _ true ∙ s e .pre .1,
@@ -98,9 +107,9 @@ returns-3 c =
 
 pub link-ok-spec : {M : Type 1} → statement M
 link-ok-spec = tie.close (tie.spec
+    (λ c κs. search needs) (λ c κs. search needs)  -- consumer-in-requires, provider-in-requires
     returns
-    (λ c κs. search needs) (λ c κs. search needs) (λ c κs. search needs)  -- consumer-in-requires, provider-in-requires, flag-at-requires
-    (λ c κs. search needs)  -- flag-at-requires-2
+    (λ c κs. search needs) (λ c κs. search needs)  -- flag-at-requires, flag-at-requires-2
     returns-2
     (λ c κs. search needs) (λ c κs. search needs) (λ c κs. search needs)  -- port-in-requires, meet-requires, declared-requires
     (λ c. provider-below (c .before .before .before .before))  -- element-write-seen

@@ -30,22 +30,14 @@ module _ (l : tie.At-loop Inv-loop μ-loop) where
   abbrev row : ℕ → Declaration
   row = declarationAt (s .args .owner .now) (s .args .key .now) (s .args .realm .now) (s .args .provides .now)
 
--- in a turn, the declaration made
-module _ (m : tie.After-declaration-of Inv-loop μ-loop) where
-  abbrev read : tie.After-t24 Inv-loop μ-loop
-  read = m .before .before .before
-
-  abbrev turn : tie.At-loop Inv-loop μ-loop
-  turn = read .before .before .before
-
 -- what one_provider tells of the declaration
 module _ (v : tie.After-one-provider Inv-loop μ-loop) where
   abbrev l : tie.At-loop Inv-loop μ-loop
-  l = turn (v .before .before .before)
+  l = v .before .before .before .before
 
   tells : v .one-provider .result ≡ alone (row l) (s l .args .present .now) (s l .args .count) (row l (l .loop .i))
   unfolding declarationsOf
-  tells = rw (v .before .before .before .declaration-of .ensures, rows-most (s l .args .count) DECLARATIONS _ (row l) (cut l .at-most .ensures)) at (v .one-provider .ensures)
+  tells = rw (rows-most (s l .args .count) DECLARATIONS _ (row l) (cut l .at-most .ensures)) at (v .one-provider .ensures)
 
 returns : tie.Need-returns Inv-loop μ-loop
 unfolding declarationsOf
@@ -59,10 +51,7 @@ pub one-owner-spec : {M : Type 1} → statement M
 one-owner-spec = tie.close (tie.spec Inv-loop μ-loop
     (λ c κs. search needs) (λ c κs. search needs)  -- at-most-requires, chain-ports-requires
     (λ c. test-start (c .before .before .before .at-most .ensures))  -- loop-holds
-    (λ c. omega arith) (λ c. omega arith) (λ c. omega arith) (λ c. omega arith)  -- mul-t17, element-copy-out-t20, mul-t21, element-copy-out-t24
-    (λ c. omega arith) (λ c. omega arith) (λ c. omega arith)  -- mul-declaration-of, element-copy-out-declaration-of, element-copy-out-declaration-of-2
-    (λ c κs. search needs)  -- declaration-of-requires
-    (λ c κs. turn (c .before .before) .before .chain-ports .ensures)  -- one-provider-requires
+    (λ c κs. let l = c .before .before .before in (l .before .chain-ports .ensures, omega (arith, cut l .at-most .ensures .within)))  -- one-provider-requires
     returns
     (λ c. omega arith) (λ c. omega arith)  -- add-i, loop-less
     (λ c. test-on (search) (omega arith) (sym (tells (c .before)) ∙ not-false _ (c .if1 .left)))  -- loop-again

@@ -1,7 +1,7 @@
 -- `text::made::node_of` meets its contract.
 use Rattle.model.proofs.Logic.{_∙_, ap, needs}
 use Rattle.model.proofs.Laws.Records.{parent-read}
-use Rattle.model.specs.{Records.givenParent, Records.parentIn, declared.records.Node.Node}
+use Rattle.model.specs.{Records.byteParent, Records.parentIn, declared.records.Node.Node}
 use Rattle.text.proofs.{made.node_of.Statement.statement}
 use Rattle.text.proofs.made.node_of.Tie as tie
 
@@ -14,7 +14,7 @@ returns c =
       retired = ap (λ (x : Node). x .retired) made;
       phase = ap (λ (x : Node). x .phase) made ∙ n .before .before .phase-at .ensures;
       restoring = ap (λ (x : Node). x .restoring) made;
-      parent = ap parentIn made ∙ ap parentIn (n .new-node .ensures) ∙ parent-read (n .before .parent-of .result) ∙ n .before .parent-of .ensures;
+      parent = ap parentIn made ∙ ap parentIn (n .new-node .ensures) ∙ parent-read (byteParent (n .before .parent-of .result)) ∙ ap byteParent (n .before .parent-of .ensures);
       generation = ap (λ (x : Node). x .generation) made;
     }
 
