@@ -1,4 +1,5 @@
--- Soundness as docs/RULES.md words it, over places: the eight points of the tables, and the counts and blanks of a kernel. Theorems/Points.antt: they are the tests `eightPoints` and `soundKernel`; by them every stored identity was issued.
+-- Soundness as docs/RULES.md words it, over places: the eight points of the tables, and the counts and blanks of a kernel.
+-- Theorems/Points.antt: they are the tests `eightPoints` and `soundKernel`, and by them every stored identity was issued.
 use mathlib.Core.Path.{_≡_}
 use mathlib.Core.Bool.{false, true}
 use mathlib.Core.List.{List}

@@ -87,4 +87,5 @@ begun-sound S T id k p =
     let (bs, e) = is-some (targetList (target T id)) (p .1 .1 .1 .1 .0) in
     let t : Targeted T id bs = targeted T id bs e in
     let q : isInactive ((nodeAt (T .nodes) id) .phase) ≡ true = not-f _ (p .1 .0) in
-    rw e (record { sizes = begin-fits S T id bs k t q (ltb-false _ _ (rw e at (p .1 .1 .1 .1 .1 .0))); safe = begin-safe S T id bs k t q; covered = begin-covered S T id bs k t q; stored = begin-stored S T id bs k t q })
+    let within = begin-fits S T id bs k t q (ltb-false _ _ (rw e at (p .1 .1 .1 .1 .1 .0))) in
+    rw e (record { sizes = within; safe = begin-safe S T id bs k t q; covered = begin-covered S T id bs k t q; stored = begin-stored S T id bs k t q })

@@ -8,7 +8,9 @@ module _ (S : Sizes) (T : Tables) (id : ℕ) (k : Sound S T) where
   node = nodeAt (T .nodes) id
 
   pub retiredFrom-sound : Passed (retireTests T id) → Sound S (retiredFrom T id)
-  retiredFrom-sound p = let t : present (T .nodes) id ≡ true = not-f _ (p .0) in sound-update S T id _ k (calm T id _ (k .safe) t refl t (λ i. i) (λ r. (r, k .safe .nodes id .restoring-unloading r))) (λ i. i) (λ a. clash _ t a)
+  retiredFrom-sound p =
+      let t : present (T .nodes) id ≡ true = not-f _ (p .0) in
+      sound-update S T id _ k (calm T id _ (k .safe) t refl t (λ i. i) (λ r. (r, k .safe .nodes id .restoring-unloading r))) (λ i. i) (λ a. clash _ t a)
 
   pub left-sound : Passed (leaveTests T id) → Sound S (left T id)
   left-sound p =
@@ -19,7 +21,8 @@ module _ (S : Sizes) (T : Tables) (id : ℕ) (k : Sound S T) where
   finished-sound p =
       let t : present (T .nodes) id ≡ true = not-f _ (p .0) in
       let q : isRunning (node .phase) ≡ true = loading-running (node .phase) (not-f _ (p .1 .0)) in
-      sound-update S T id _ k (calm T id _ (k .safe) t refl t (λ i. refl) (λ r. clash _ (k .safe .nodes id .restoring-unloading r) (running-stays (node .phase) q))) (λ i. running-installed (node .phase) q) (λ a. clash _ t a)
+      let may = calm T id _ (k .safe) t refl t (λ i. refl) (λ r. clash _ (k .safe .nodes id .restoring-unloading r) (running-stays (node .phase) q)) in
+      sound-update S T id _ k may (λ i. running-installed (node .phase) q) (λ a. clash _ t a)
 
   pub cleanupBegun-sound : Passed (beginCleanupTests T id) → Sound S (cleanupBegun T id)
   unfolding relies

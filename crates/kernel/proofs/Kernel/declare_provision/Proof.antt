@@ -74,7 +74,8 @@ returns-3 c =
     let g = r .before .before in
     let d = e (n g) in
     let row = rest (P d) _ ∙ skip _ _ _ (other g (r .before .if2 .left)) ∙ skip _ _ _ (full g (lt-leb _ _ (r .if3 .left))) ∙ of-passed [] tt in
-    let done = hands-accepted (P d .kernel) (command (s d)) row _ (declared-now (P d .kernel) (s d .args .id) (s d .args .port) (new g) (r .if3 .left) (c .provision .ensures ∙ ap (λ (i : ℕ). provision i (s d .args .port)) (stored-is (below (P d))))) in
+    let made = c .provision .ensures ∙ ap (λ (i : ℕ). provision i (s d .args .port)) (stored-is (below (P d))) in
+    let done = hands-accepted (P d .kernel) (command (s d)) row _ (declared-now (P d .kernel) (s d .args .id) (s d .args .port) (new g) (r .if3 .left) made) in
     answer-is (s d .args .self) (command (s d)) (d .enum-told .given .1) done
 
 returns-4 : tie.Need-returns-4

@@ -63,7 +63,8 @@ returns-2 c =
     let d = e f in
     let i = I d in
     let o = s (at d) .args in
-    let laid = inserted-laid (i .kernel) (i .short) _ (f .append-ports .ensures (omega (arith, i .sum))) (g .append-ports2 .ensures (i .sum)) refl (i .node) (o .parent) (c .new-node .ensures ∙ ap newNode (stored-parent-is (o .parent) (i .parent))) in
+    let made = c .new-node .ensures ∙ ap newNode (stored-parent-is (o .parent) (i .parent)) in
+    let laid = inserted-laid (i .kernel) (i .short) _ (f .append-ports .ensures (omega (arith, i .sum))) (g .append-ports2 .ensures (i .sum)) refl (i .node) (o .parent) made in
     inserts (i .kernel) (o .parent) (o .dependencies) (o .provisions) (passed d) _ laid
 
 pub insert-spec : {M : Type 1} → statement M

@@ -52,6 +52,12 @@ module _ (r : tie.After-parent-in Inv-loop μ-loop Inv-loop2 μ-loop2) where
   consistent : isConsistent node ≡ true
   consistent = sym (r .before .before .is-consistent .ensures) ∙ not-false _ (r .before .if1 .left)
 
+returns : tie.Need-returns Inv-loop μ-loop Inv-loop2 μ-loop2
+returns c =
+    let a = c .before in
+    let j = a .before .before .before .loop in
+    fails _ (testAt-hit (j .inv .1) blankNode (omega arith) (inconsistent-fails _ _ _ (sym (a .is-consistent .ensures) ∙ not-true _ (c .if1 .taken))))
+
 returns-2 : tie.Need-returns-2 Inv-loop μ-loop Inv-loop2 μ-loop2
 returns-2 c =
     let p = c .before .before in
@@ -122,7 +128,7 @@ nodes-ok-spec = tie.close (tie.spec Inv-loop μ-loop
     (λ c κs. search needs)  -- at-most-requires
     (λ c. let p = c .before .pre in (omega arith, testAt-start (omega arith) (c .at-most .ensures), begun-start (p .0), begun-start (p .1), begun-start (p .2)))  -- loop-holds
     (λ c. omega arith) (λ c. omega arith) (λ c κs. search needs)  -- mul-node, array-copy-out-node, is-consistent-requires
-    (λ c. fails _ (testAt-hit (c .before .before .before .before .loop .inv .1) blankNode (omega arith) (inconsistent-fails _ _ _ (sym (c .before .is-consistent .ensures) ∙ not-true _ (c .if1 .taken)))))  -- returns
+    returns
     (λ c κs. search needs) (λ c. search needs)  -- parent-in-requires, enum-known-parent
     returns-2
     (λ c. omega arith) (λ c. omega arith)  -- mul-above, array-copy-out-above
