@@ -74,7 +74,7 @@ blankBinding = record { key = 0; realm = 0; provider = 0 }
 
 -- ---- identities in one byte
 
--- below 256 a byte holds the identity itself; any other number, which no kernel issues, becomes 255, which none issues either
+-- below 256 the identity itself; any other number becomes 255. A kernel of these sizes issues neither
 abbrev pub byteOf : ℕ → ℕ
 byteOf id = cond (ltb id 256) id 255
 

@@ -212,3 +212,7 @@ kernel-points S k = (to, of)
       blank-links = blanks-past isBlankLink blankLink refl _ _ (p .blank-links);
       points = eight-points (tablesOf k) .1 (p .points);
     })
+
+-- and what a sound kernel's records below the counts store was issued
+pub kernel-issued : (S : Sizes) (k : Layout) → soundKernel S k ≡ true → Issued (tablesOf k)
+kernel-issued S k h = stored-issued (tablesOf k) ((kernel-points S k .0 h) .points)
