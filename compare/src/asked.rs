@@ -48,6 +48,11 @@ pub fn target(kernel: &Kernel, id: usize, missing: Option<Missing>) -> Asked {
     (format!("target {id}"), answer)
 }
 
+/// link_generation.
+pub fn link_generation(id: usize, Port { key, realm }: Port, answer: Option<u64>) -> Asked {
+    (format!("link_generation {id} {key} {realm}"), answer.map_or(none(), |n| n.to_string()))
+}
+
 /// resolve.
 pub fn resolve(Port { key, realm }: Port, answer: Lookup) -> Asked {
     (format!("resolve {key} {realm}"), found(answer))

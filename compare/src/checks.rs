@@ -6,6 +6,7 @@
 //! a Loading or Active one leave if they do not, and else answer 6.
 use crate::log::Command;
 use crate::record::{Binding, Observed, Question, Record, ACTIVE, LOADING, UNLOADING};
+use crate::reference::Kernel;
 
 const CHANGED: u8 = 6;
 
@@ -26,8 +27,11 @@ pub struct Rule {
 /// A command with what was known before and after it.
 pub struct Played<'a> {
     pub command: Command,
-    /// lib.rs's target of the command's identity before it.
+    /// lib.rs's target of the command's identity before it, and the generations of its providers.
     pub original_target: Target,
+    pub original_generations: Option<Vec<u64>>,
+    /// lib.rs's kernel after the command.
+    pub original: &'a Kernel,
     /// The kernel's record before the command, with its question.
     pub before: Option<(&'a Record, Option<Question>)>,
     pub after: &'a Record,
@@ -150,6 +154,7 @@ fn asked<'a>(before: Option<(&'a Record, Option<Question>)>, identity: Option<u8
     record.observed.as_ref()
 }
 
-fn installed(record: &Record, id: usize) -> bool {
+/// Whether a component is Loading or Active.
+pub fn installed(record: &Record, id: usize) -> bool {
     record.nodes.get(id).is_some_and(|n| n.present == 1 && (n.phase == LOADING || n.phase == ACTIVE))
 }

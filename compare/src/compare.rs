@@ -1,6 +1,7 @@
 //! One log, played on both sides and compared after each command.
 use crate::checks::{Played, Rule};
 use crate::coverage::Coverage;
+use crate::episodes::Episodes;
 use crate::log::{self, Command, Next};
 use crate::observations::Observation;
 use crate::record::{Bytes, Question, Record};
@@ -28,6 +29,7 @@ impl Asked {
 pub struct Tally {
     pub coverage: Coverage,
     pub rule: Rule,
+    pub episodes: Episodes,
 }
 
 /// Where the two sides do not agree: the command's count, its start and end in the log, and both records.
@@ -66,6 +68,7 @@ pub fn log(asked: &Asked, made: &Made, tally: &mut Tally) -> Result<(), Box<Diff
     let reference = Reference::new();
     let mut c = Comparison { asked, answers: made.answers, kernel, reference, before: None, at: 0, index: 0 };
     tally.rule.restart();
+    tally.episodes.restart();
     while !(full && c.kernel.0.is_empty()) {
         match log::read(&asked.log, c.at) {
             Next::End => break,
@@ -86,7 +89,8 @@ pub fn log(asked: &Asked, made: &Made, tally: &mut Tally) -> Result<(), Box<Diff
 
 impl Comparison<'_> {
     fn command(&mut self, command: Command, end: usize, tally: &mut Tally) -> Result<(), Box<Difference>> {
-        let target = command.identity().and_then(|id| self.reference.target(id));
+        let original_target = command.identity().and_then(|id| self.reference.target(id));
+        let original_generations = command.identity().and_then(|id| self.reference.target_generations(id));
         let step = self.reference.play(command);
         let kernel = self.same(&step, end)?;
         if let Some(before) = &self.before {
@@ -96,9 +100,13 @@ impl Comparison<'_> {
         let before = self.before.as_ref().map(|r| (r, self.asked.question(self.index - 1)));
         let question = self.asked.question(self.index);
         self.covered(&kernel, question, tally);
-        let played = Played { command, original_target: target, before, after: &kernel, question };
+        let (original, after) = (self.reference.kernel(), &kernel);
+        let played = Played { command, original_target, original_generations, original, before, after, question };
         if let Err(what) = tally.rule.check(&played) {
             return self.differ(format!("the iteration rule: {what}"), end, kernel.clone(), Some(kernel));
+        }
+        if let Err(what) = tally.episodes.check(&played) {
+            return self.differ(format!("the links' numbers: {what}"), end, kernel.clone(), Some(kernel));
         }
         self.before = Some(kernel);
         self.at = end;
@@ -119,13 +127,15 @@ impl Comparison<'_> {
     /// Counts a record, and what was observed.
     fn covered(&self, tables: &Record, question: Option<Question>, tally: &mut Tally) {
         tally.coverage.record(tables);
+        tally.episodes.count(tables);
         if let (Some(question), Some(observed)) = (question, &tables.observed) {
             let original = self.reference.kernel();
             tally.coverage.observation(&Observation { question, observed, tables, original });
         }
     }
 
-    /// The kernel's next record, equal to lib.rs's; in the place of lib.rs's answer it refuses only where it may.
+    /// The kernel's next record: lib.rs's, and its links have the numbers that they must have. In the place of lib.rs's
+    /// answer it refuses only where it may.
     fn same(&mut self, step: &Step, end: usize) -> Result<Record, Box<Difference>> {
         let original = self.reference.record(step.answer, step.detail, self.asked.question(self.index));
         let kernel = self.kernel.record();
@@ -136,8 +146,14 @@ impl Comparison<'_> {
             return self.differ("the answers alone differ".into(), end, original, kernel);
         }
         match kernel {
-            Some(kernel) if kernel == original => Ok(kernel),
-            kernel => self.differ("the records differ".into(), end, original, kernel),
+            Some(kernel) if !kernel.agrees(&original) => {
+                self.differ("the records differ".into(), end, original, Some(kernel))
+            }
+            Some(kernel) if !kernel.numbers().eq(original.numbers()) => {
+                self.differ("the links' numbers differ".into(), end, original, Some(kernel))
+            }
+            Some(kernel) => Ok(kernel),
+            None => self.differ("there is no whole record".into(), end, original, None),
         }
     }
 

@@ -88,6 +88,7 @@ impl Coverage {
         self.observed += 1;
         self.lookups.resolve(observed.resolve);
         self.lookups.target(observed.target.is_some(), observed.missing);
+        self.lookups.link_generation(observation.number(), observation.dead_link());
         self.checks[0][usize::from(observed.check_iteration)] += 1;
         self.checks[1][usize::from(observed.check_insert)] += 1;
         for (count, (_, such)) in self.observations.iter_mut().zip(OBSERVATIONS) {

@@ -8,7 +8,7 @@ const A: Port = Port { key: 7, realm: 1 };
 const B: Port = Port { key: 8, realm: 1 };
 /// B's key in another realm.
 const B_ELSEWHERE: Port = Port { key: 8, realm: 2 };
-/// Nobody provides it, but for the chain that alternates.
+/// Nobody provides it, but for the chain that alternates and the episodes.
 const MISSING: Port = Port { key: 9, realm: 1 };
 
 const BOTH: [bool; 2] = [false, true];
@@ -27,6 +27,7 @@ pub fn all() -> Vec<(String, Tables)> {
         ("declarations of absent owners".to_string(), absent_owners()),
         ("one owner that provides a port three times".to_string(), repeated_provision()),
         ("dead links between any identities".to_string(), dead_links()),
+        ("providers in different episodes".to_string(), episodes()),
         ("retired in every phase".to_string(), phases(true)),
         ("not retired in every phase".to_string(), phases(false)),
         ("parents and children".to_string(), parents()),
@@ -97,6 +98,17 @@ fn dead_links() -> Tables {
     let kernel = provider().node(INACTIVE).absent().restoring().absent().depends(3, A).provides(3, MISSING);
     let kernel = kernel.dead(4, A, 4).dead(0, A, 0).dead(2, B, 1).dead(1, B, 2).dead(3, MISSING, 4);
     kernel.live(3, A, 0).dead(0, MISSING, 3).dead(3, A, 0).dead(4, A, 0)
+}
+
+/// Providers of generations 3, 0 and the largest; 4 can begin. 3's dead links stand before, between and behind its live
+/// ones, and have other numbers but for one.
+fn episodes() -> Tables {
+    let kernel = Tables::new().node(ACTIVE).generation(3).node(ACTIVE).generation(0).node(ACTIVE).generation(MOST);
+    let kernel = kernel.provides(0, A).provides(1, B).provides(2, MISSING).node(LOADING).node(INACTIVE);
+    let depend = |kernel: Tables, id| kernel.depends(id, MISSING).depends(id, A).depends(id, B);
+    let kernel = [3, 4].into_iter().fold(kernel, depend);
+    let kernel = kernel.dead(4, A, 0).dead(3, A, 0).live(3, A, 0).dead(3, B, 1).live(3, B, 1).dead(3, MISSING, 2);
+    kernel.dead(4, A, 0).dead(4, B, 1).live(3, MISSING, 2).dead(3, A, 0)
 }
 
 /// A component in each phase, the last restoring; each relies on 0.

@@ -1,4 +1,4 @@
-//! How often resolve gave each of its three answers, and what target answered.
+//! How often resolve gave each of its three answers, and what target and link_generation answered.
 use crate::record::{Lookup, Missing};
 
 #[derive(Default)]
@@ -7,6 +7,8 @@ pub struct Lookups {
     resolve: [u64; 3],
     /// Bindings; without them a dependency with an owner that is not Active, one without an owner, or nothing.
     target: [u64; 4],
+    /// A number up to 1, a larger one; without one a dead link of the consumer and port, or none.
+    link_generation: [u64; 4],
 }
 
 impl Lookups {
@@ -23,6 +25,15 @@ impl Lookups {
         self.target[place] += 1;
     }
 
+    /// An answer, and whether a dead link of the consumer and port stands.
+    pub fn link_generation(&mut self, answer: Option<u64>, dead: bool) {
+        let place = match answer {
+            Some(number) => usize::from(number > 1),
+            None => 3 - usize::from(dead),
+        };
+        self.link_generation[place] += 1;
+    }
+
     pub fn print(&self) {
         let ([provider, not_active, no_owner], target) = (self.resolve, self.target);
         println!("resolve answered: a provider {provider}, an owner not Active {not_active}, no owner {no_owner}");
@@ -30,6 +41,9 @@ impl Lookups {
             "target answered: bindings {}, a dependency with an owner not Active {}, without an owner {}, nothing {}",
             target[0], target[1], target[2], target[3]
         );
+        let [first, later, dead, nothing] = self.link_generation;
+        println!("link_generation answered: a number {}, {later} of them of a second or later episode,", first + later);
+        println!("  none with a dead link of the consumer and port {dead}, none otherwise {nothing}");
     }
 }
 

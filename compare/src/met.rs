@@ -43,7 +43,7 @@ const INTENDED: [Intended; 8] = [
 /// A kind of kernel that no log makes, or that is at the edge of a size or of soundness.
 type Kind = (&'static str, fn(&Record, &Reference) -> bool);
 
-const KINDS: [Kind; 13] = [
+const KINDS: [Kind; 16] = [
     ("a present component of generation 2^64 - 2", |t, _| generation(t, MOST - 1)),
     ("a present component of generation 2^64 - 1", |t, _| generation(t, MOST)),
     ("64 identities", |t, _| t.nodes.len() == IDENTITIES),
@@ -59,6 +59,11 @@ const KINDS: [Kind; 13] = [
         in_dead_links(t).any(|id| id + 1 == t.nodes.len())
     }),
     ("a dead link of an absent identity", |t, _| in_dead_links(t).any(|id| t.nodes[id].present == 0)),
+    ("a dead link with another number than its provider's generation", |t, _| {
+        t.links.iter().any(|l| l.live == 0 && t.nodes[l.binding.provider as usize].generation != l.generation)
+    }),
+    ("a live link with number 0", |t, _| t.links.iter().any(|l| l.live == 1 && l.generation == 0)),
+    ("a live link with number 2^64 - 1", |t, _| t.links.iter().any(|l| l.live == 1 && l.generation == MOST)),
     ("an absent identity whose parent is the one before it", |t, _| {
         absent_children(t).any(|(id, parent)| parent + 1 == id)
     }),
@@ -81,6 +86,8 @@ pub struct Met {
     intended: [[u64; 10]; INTENDED.len()],
     /// begin done at generation 2^64 - 2, and refused 9 at 2^64 - 1.
     last_begins: [u64; 2],
+    /// begin done with a link of number 0, and with one of 2^64 - 1.
+    begun_links: [u64; 2],
 }
 
 impl Met {
@@ -91,7 +98,7 @@ impl Met {
         }
     }
 
-    pub fn command(&mut self, call: Call, step: &Step, before: &Record) {
+    pub fn command(&mut self, call: Call, step: &Step, before: &Record, after: &Record) {
         self.commands += 1;
         self.far[0] += u64::from(far(call.named()));
         self.answer(place(call), step);
@@ -99,6 +106,9 @@ impl Met {
         let generation = before.nodes.get(id).map(|n| n.generation);
         self.last_begins[0] += u64::from(step.answer == 0 && generation == Some(MOST - 1));
         self.last_begins[1] += u64::from(step.own == 9 && generation == Some(MOST));
+        for (count, number) in self.begun_links.iter_mut().zip([0, MOST]) {
+            *count += u64::from(after.numbers().skip(before.links.len()).any(|n| n == number));
+        }
     }
 
     /// Questions that name an identity, or none.
@@ -124,6 +134,7 @@ impl Met {
             "begin done at generation 2^64 - 2: {}, refused at 2^64 - 1: {}",
             self.last_begins[0], self.last_begins[1]
         );
+        println!("begin done with a link of number 0: {}, of 2^64 - 1: {}", self.begun_links[0], self.begun_links[1]);
         self.lookups.print();
         println!("\n| kernels with | times |\n|---|---|");
         for (count, (name, _)) in self.kinds.iter().zip(KINDS) {

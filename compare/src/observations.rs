@@ -13,7 +13,7 @@ pub struct Observation<'a> {
 /// What was observed, and whether an observation is such.
 pub type Kind = (&'static str, fn(&Observation) -> bool);
 
-pub const OBSERVATIONS: [Kind; 10] = [
+pub const OBSERVATIONS: [Kind; 14] = [
     ("resolve answered an Inactive owner", |o| o.owner_in(INACTIVE)),
     ("resolve answered a Loading owner", |o| o.owner_in(LOADING)),
     ("resolve answered an Unloading owner", |o| o.owner_in(UNLOADING)),
@@ -37,6 +37,16 @@ pub const OBSERVATIONS: [Kind; 10] = [
     ("target named nothing of a retired component with a dependency that does not resolve", |o| {
         o.observed.retired == 1 && o.named().is_none() && o.unresolved() > 0
     }),
+    ("link_generation answered a second or later episode", |o| o.number().is_some_and(|number| number > 1)),
+    ("link_generation answered another number than that of a dead link of the consumer and port", |o| {
+        o.dead_with_another()
+    }),
+    ("link_generation answered none, and a dead link of the consumer and port stands", |o| {
+        o.number().is_none() && o.dead_link()
+    }),
+    ("link_generation answered none of an identity that was never issued, for a live link's port", |o| {
+        o.number().is_none() && o.unknown_consumer()
+    }),
 ];
 
 impl Observation<'_> {
@@ -47,6 +57,33 @@ impl Observation<'_> {
     /// Whether resolve answered an owner that is not Active, but in this phase.
     fn owner_in(&self, phase: u8) -> bool {
         matches!(self.observed.resolve, Lookup::NotActive(id) if self.node(id).phase == phase)
+    }
+
+    /// What link_generation answered.
+    pub fn number(&self) -> Option<u64> {
+        let (there, number) = self.observed.link_generation;
+        (there == 1).then_some(number)
+    }
+
+    /// Whether a dead link of the consumer and port stands.
+    pub fn dead_link(&self) -> bool {
+        let Question { identity, key, realm } = self.question;
+        self.tables.has_dead_link(identity.into(), key, realm)
+    }
+
+    /// Whether a dead link of the consumer and port has another number than the answer.
+    fn dead_with_another(&self) -> bool {
+        let Question { identity, key, realm } = self.question;
+        let mut links = self.tables.links_of(identity.into(), key, realm);
+        self.number().is_some_and(|number| links.any(|l| l.live == 0 && l.generation != number))
+    }
+
+    /// Whether the consumer was never issued, and another has a live link of the port.
+    fn unknown_consumer(&self) -> bool {
+        let Question { identity, key, realm } = self.question;
+        let issued = self.tables.nodes.len();
+        let live = |id: usize| self.tables.links_of(id as u64, key, realm).any(|l| l.live == 1);
+        usize::from(identity) >= issued && (0..issued).any(live)
     }
 
     /// The dependency that target named.

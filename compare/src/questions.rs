@@ -1,12 +1,13 @@
 //! What the observers are asked after each command of a log.
-use crate::guide::{Declaration, Guide};
+use crate::guide::{Declaration, Guide, Link};
 use crate::log::{self, Command, Next};
 use crate::random::Random;
 use crate::record::Question;
 use crate::script::P;
 
 /// A question for each command: mostly on the next command's identity, so that the target that a begin or a
-/// leave_if_changed meets is observed just before it; else on a declaration, a removed owner's too, or on anything.
+/// leave_if_changed meets is observed just before it; one in five on a link's consumer and port; else on a declaration, a
+/// removed owner's too, or on anything.
 pub fn of(log: &[u8], random: &mut Random) -> Vec<Question> {
     let commands = commands(log);
     let mut guide = Guide::default();
@@ -21,6 +22,10 @@ pub fn of(log: &[u8], random: &mut Random) -> Vec<Question> {
 }
 
 fn question(next: Option<&Command>, guide: &Guide, random: &mut Random) -> Question {
+    if let Some(link) = random.chance(20).then(|| link(guide, random)).flatten() {
+        let consumer = if random.chance(90) { link.consumer as u8 } else { any_identity(random) };
+        return Question { identity: consumer, key: link.port.key, realm: link.port.realm };
+    }
     let declared = declaration(guide, random);
     let port = next.and_then(|c| c.port()).filter(|_| random.chance(50));
     let port = port.or(declared.map(|d| d.port)).unwrap_or(P);
@@ -30,6 +35,13 @@ fn question(next: Option<&Command>, guide: &Guide, random: &mut Random) -> Quest
         _ => any_identity(random),
     };
     Question { identity, key: port.key, realm: port.realm }
+}
+
+/// Any live link or any dead one, half of the time each if there are both.
+fn link(guide: &Guide, random: &mut Random) -> Option<Link> {
+    let (live, dead): (Vec<Link>, Vec<Link>) = guide.links.iter().partition(|l| l.live);
+    let [first, second] = if random.chance(50) { [live, dead] } else { [dead, live] };
+    random.pick(&first).or(random.pick(&second))
 }
 
 /// Any declaration; one time in four a provision of a retired or removed owner, if there is one.

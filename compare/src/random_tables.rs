@@ -3,7 +3,7 @@ use crate::log::Port;
 use crate::random::Random;
 use crate::record::{Declaration, Link, Node, Record, ACTIVE, INACTIVE, LOADING, UNLOADING};
 use crate::sizes::{DECLARATIONS, IDENTITIES, LINKS};
-use crate::tables::{link, Tables, MOST};
+use crate::tables::{dead_numbers, link, Tables, MOST};
 
 struct Sample<'a> {
     random: &'a mut Random,
@@ -150,7 +150,8 @@ impl Sample<'_> {
             }
             let port = Port { key: d.key, realm: d.realm };
             let at = self.ports.iter().position(|&p| p == port).expect("declared ports are of the pool");
-            let new = link(d.owner, port, self.owners[at].expect("an installed component's port has an owner"), 1);
+            let provider = self.owners[at].expect("an installed component's port has an owner");
+            let new = link(d.owner, port, provider, 1, self.tables.nodes[provider as usize].generation);
             if !wanted.contains(&new) || self.random.chance(30) {
                 wanted.push(new);
             }
@@ -158,7 +159,7 @@ impl Sample<'_> {
         wanted
     }
 
-    /// Dead links of any identities at any places, now and then up to the size.
+    /// Dead links of any identities and numbers at any places, now and then up to the size.
     fn dead_links(&mut self) {
         let room = LINKS - self.tables.links.len();
         let full = self.random.chance(8);
@@ -167,8 +168,18 @@ impl Sample<'_> {
             let identities = [self.identity(), self.identity()];
             let port = self.ports[self.random.below(self.ports.len())];
             let place = self.random.below(self.tables.links.len() + 1);
-            self.tables.links.insert(place, link(identities[0], port, identities[1], 0));
+            let number = self.dead_number(identities[1]);
+            self.tables.links.insert(place, link(identities[0], port, identities[1], 0, number));
         }
+    }
+
+    /// The number of a dead link with this provider: nothing is asked of it.
+    fn dead_number(&mut self, provider: u64) -> u64 {
+        let any = dead_numbers(self.tables.nodes[provider as usize].generation);
+        if self.random.chance(20) {
+            return self.random.next();
+        }
+        any[self.random.below(any.len())]
     }
 
     /// Any issued identity, often the last one or an absent one.

@@ -20,11 +20,20 @@ pub struct Declaration {
     pub provides: u8,
 }
 
+/// `generation` is the link's number, its provider's generation at the consumer's begin; lib.rs has no such field.
 #[derive(PartialEq, Debug, Clone)]
 pub struct Link {
     pub consumer: u64,
     pub binding: Binding,
     pub live: u8,
+    pub generation: u64,
+}
+
+impl Link {
+    /// The link as lib.rs records it: the one place that leaves the number out.
+    fn in_original(&self) -> (u64, Binding, u8) {
+        (self.consumer, self.binding, self.live)
+    }
 }
 
 #[derive(PartialEq, Debug, Clone, Copy)]
@@ -80,6 +89,7 @@ pub struct Observed {
     pub target: Option<Vec<Binding>>,
     pub missing: Option<Missing>,
     pub committed: Vec<Binding>,
+    pub link_generation: (u8, u64),
     pub check_iteration: u8,
     pub check_insert: u8,
 }
@@ -95,6 +105,33 @@ pub struct Record {
 }
 
 impl Record {
+    /// Whether two records agree in all but the links' numbers, which lib.rs does not record.
+    pub fn agrees(&self, other: &Record) -> bool {
+        // a further field does not compile before it is compared here
+        let Record { answer, detail, nodes, declarations, links, observed } = other;
+        (self.answer, self.detail) == (*answer, *detail)
+            && self.nodes == *nodes
+            && self.declarations == *declarations
+            && self.links.iter().map(Link::in_original).eq(links.iter().map(Link::in_original))
+            && self.observed == *observed
+    }
+
+    /// Each link's number, of dead links too.
+    pub fn numbers(&self) -> impl Iterator<Item = u64> + '_ {
+        self.links.iter().map(|l| l.generation)
+    }
+
+    /// The links of a consumer and a port.
+    pub fn links_of(&self, consumer: u64, key: u64, realm: u64) -> impl Iterator<Item = &Link> {
+        let asked = (consumer, key, realm);
+        self.links.iter().filter(move |l| (l.consumer, l.binding.key, l.binding.realm) == asked)
+    }
+
+    /// Whether a dead link of a consumer and a port stands.
+    pub fn has_dead_link(&self, consumer: u64, key: u64, realm: u64) -> bool {
+        self.links_of(consumer, key, realm).any(|l| l.live == 0)
+    }
+
     /// Whether a removed owner's provision of a port still stands.
     pub fn provided_by_removed(&self, key: u64, realm: u64) -> bool {
         let provisions = self.declarations.iter().filter(|d| d.provides == 1);
@@ -166,7 +203,7 @@ impl Bytes<'_> {
     }
 
     fn link(&mut self) -> Option<Link> {
-        Some(Link { consumer: self.u64()?, binding: self.binding()?, live: self.u8()? })
+        Some(Link { consumer: self.u64()?, binding: self.binding()?, live: self.u8()?, generation: self.u64()? })
     }
 
     /// No target and an empty one differ; where there is none the count is 0.
@@ -223,6 +260,7 @@ impl Bytes<'_> {
             target: self.target()?,
             missing: self.missing()?,
             committed: self.bindings()?,
+            link_generation: self.optional()?,
             check_iteration: self.u8()?,
             check_insert: self.u8()?,
         };

@@ -3,12 +3,15 @@ use crate::calls::{parent_of, Call};
 use crate::intended::{self, Answered, Counts, Intended};
 use crate::log::{self, Command};
 use crate::record::{self, Observed, Question, Record};
+use numbers::Numbers;
 
 include!(env!("ORIGINAL_RS"));
 
 // within this module, since it reads lib.rs's tables
 #[path = "lookup.rs"]
 pub mod lookup;
+#[path = "numbers.rs"]
+pub mod numbers;
 
 /// What lib.rs's Vec has beyond Rust's.
 trait Set<T> {
@@ -27,9 +30,10 @@ impl Clone for Kernel {
     }
 }
 
-/// lib.rs's kernel and the log player's two pending lists.
+/// lib.rs's kernel, the numbers that its links must have, and the log player's two pending lists.
 pub struct Reference {
     kernel: Kernel,
+    numbers: Numbers,
     dependencies: Vec<Port>,
     provisions: Vec<Port>,
 }
@@ -55,17 +59,18 @@ impl Step {
 
 impl Reference {
     pub fn new() -> Reference {
-        Reference { kernel: Kernel::new(), dependencies: Vec::new(), provisions: Vec::new() }
+        let (dependencies, provisions) = (Vec::new(), Vec::new());
+        Reference { kernel: Kernel::new(), numbers: Numbers::default(), dependencies, provisions }
     }
 
-    /// A kernel that has these tables, and empty lists.
+    /// A kernel that has these tables, its links these numbers, and empty lists.
     pub fn of(tables: &Record) -> Reference {
         let kernel = Kernel {
             nodes: tables.nodes.iter().map(node_of).collect(),
             declarations: tables.declarations.iter().map(declaration_of).collect(),
             links: tables.links.iter().map(link_of).collect(),
         };
-        Reference { kernel, ..Reference::new() }
+        Reference { kernel, numbers: Numbers::of(tables), ..Reference::new() }
     }
 
     /// lib.rs's kernel, for its observers.
@@ -115,6 +120,8 @@ impl Reference {
         let intended = intended::refuses(call, &answered);
         if intended.is_some() {
             self.kernel = kernel;
+        } else if own == 0 {
+            self.numbers.follow(call, &kernel);
         }
         step(own, detail, intended)
     }
@@ -159,6 +166,16 @@ impl Reference {
         self.kernel.target(id.into()).map(bindings)
     }
 
+    /// The generations of target's providers now, in its order.
+    pub fn target_generations(&self, id: u8) -> Option<Vec<u64>> {
+        numbers::of_target(&self.kernel, id.into())
+    }
+
+    /// What link_generation must answer.
+    pub fn link_generation(&self, consumer: usize, p: log::Port) -> Option<u64> {
+        self.numbers.link_generation(&self.kernel, consumer, port(p))
+    }
+
     /// check_insert with the pending lists as they are; refused where an insert is.
     pub fn check_insert(&self, parent: Option<usize>) -> Step {
         let (own, detail) = done(self.kernel.check_insert(parent, &self.dependencies, &self.provisions));
@@ -175,14 +192,14 @@ impl Reference {
         done(self.kernel.check_iteration(id)).0
     }
 
-    /// The record after a step, with the observers' answers if they are asked.
+    /// The record after a step, with the number that each link must have, and the observers' answers if they are asked.
     pub fn record(&self, answer: u8, detail: u64, question: Option<Question>) -> Record {
         Record {
             answer,
             detail,
             nodes: self.kernel.nodes.iter().map(node).collect(),
             declarations: self.kernel.declarations.iter().map(declaration).collect(),
-            links: self.kernel.links.iter().map(link).collect(),
+            links: self.kernel.links.iter().enumerate().map(|(at, l)| link(l, self.numbers.at(at))).collect(),
             observed: question.map(|q| self.observed(q)),
         }
     }
@@ -209,6 +226,7 @@ impl Reference {
             target: self.target(q.identity),
             missing: lookup::missing(kernel, id),
             committed: bindings(kernel.committed(id)),
+            link_generation: optional(self.numbers.link_generation(kernel, id, asked)),
             check_iteration: self.check_iteration(id),
             check_insert: self.check_insert(parent_of(q.identity)).answer,
         }
@@ -277,8 +295,8 @@ fn declaration(d: &Declaration) -> record::Declaration {
     record::Declaration { owner: d.owner as u64, key: d.port.key, realm: d.port.realm, provides: d.provides.into() }
 }
 
-fn link(l: &Link) -> record::Link {
-    record::Link { consumer: l.consumer as u64, binding: binding(&l.binding), live: l.live.into() }
+fn link(l: &Link, generation: u64) -> record::Link {
+    record::Link { consumer: l.consumer as u64, binding: binding(&l.binding), live: l.live.into(), generation }
 }
 
 fn node_of(n: &record::Node) -> Node {

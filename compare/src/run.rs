@@ -7,6 +7,7 @@ mod calls;
 mod checks;
 mod compare;
 mod coverage;
+mod episodes;
 mod generator;
 mod guide;
 mod intended;
@@ -31,6 +32,7 @@ mod text;
 use checks::Rule;
 use compare::{Asked, Difference, Made, Tally};
 use coverage::Coverage;
+use episodes::Episodes;
 use random::Random;
 
 /// The kernel's records of one log have to fit, else the rest of the log is not played.
@@ -45,7 +47,7 @@ fn main() {
     };
     let random_alone = words.iter().any(|w| w == "random");
     let written = if random_alone { Vec::new() } else { [scenarios::all(), status_logs::all().to_vec()].concat() };
-    let mut tally = Tally { coverage: Coverage::default(), rule: Rule::new() };
+    let mut tally = Tally { coverage: Coverage::default(), rule: Rule::new(), episodes: Episodes::new() };
     let mut out = vec![0; OUT];
     let mut random = Random::new(seed);
     println!("seed {seed}");
@@ -58,6 +60,7 @@ fn main() {
     }
     tally.coverage.print();
     tally.rule.print();
+    tally.episodes.print();
     println!("differences: 0");
 }
 

@@ -23,8 +23,8 @@ pub fn play(start: &Record, random: &mut Random, lines: &mut Vec<Line>, met: &mu
     s.met.kernel(start, &s.reference);
     s.write(start);
     let (identities, ports) = (tried::identities(start, random), tried::ports(start, random));
-    let far = tried::far(&identities);
-    s.observe(&identities, &far, &ports);
+    let (far, links) = (tried::far(&identities), tried::links(start, random));
+    s.observe(&identities, &far, &ports, &links);
     for trial in tried::each(&identities, &far, &ports, random) {
         if s.trial(&trial, true) {
             s.set("back".to_string());
@@ -34,7 +34,7 @@ pub fn play(start: &Record, random: &mut Random, lines: &mut Vec<Line>, met: &mu
     for _ in 0..tried::WALK {
         s.trial(&tried::any(&identities, &ports, random), false);
     }
-    s.observe(&identities, &far, &ports);
+    s.observe(&identities, &far, &ports, &links);
     s.tables();
 }
 
@@ -71,12 +71,18 @@ impl Session<'_> {
     }
 
     /// Every observer and check_iteration.
-    fn observe(&mut self, identities: &[usize], far: &[usize], ports: &[Port]) {
-        let sound = if sound(&self.reference.record(0, 0, None)) { "yes" } else { "no" };
+    fn observe(&mut self, identities: &[usize], far: &[usize], ports: &[Port], links: &[(usize, Port)]) {
+        let now = self.reference.record(0, 0, None);
+        let sound = if sound(&now) { "yes" } else { "no" };
         self.ask(None, vec![("sound".to_string(), sound.to_string())]);
         self.ask(None, asked::of_all(self.reference.kernel()));
         for &id in identities.iter().chain(far) {
             self.observe_identity(id, ports);
+            ports.iter().for_each(|&port| self.link_generation(&now, id, port));
+        }
+        for &(consumer, port) in links {
+            let far = tried::far(&[consumer]);
+            [consumer].iter().chain(&far).for_each(|&id| self.link_generation(&now, id, port));
         }
         for &port in ports {
             let answer = lookup::lookup(self.reference.kernel(), reference::port(port));
@@ -94,6 +100,12 @@ impl Session<'_> {
         for &port in ports {
             self.ask(Some(id), asked::of_declaration(self.reference.kernel(), id, port));
         }
+    }
+
+    fn link_generation(&mut self, now: &Record, id: usize, port: Port) {
+        let answer = self.reference.link_generation(id, port);
+        self.met.lookups.link_generation(answer, now.has_dead_link(id as u64, port.key, port.realm));
+        self.ask(Some(id), vec![asked::link_generation(id, port, answer)]);
     }
 
     fn target(&mut self, id: usize) {
@@ -127,8 +139,9 @@ impl Session<'_> {
             self.check_insert(parent);
         }
         let step = self.reference.call(trial.call);
-        let changed = self.reference.record(0, 0, None) != before;
-        self.met.command(trial.call, &step, &before);
+        let after = self.reference.record(0, 0, None);
+        let changed = after != before;
+        self.met.command(trial.call, &step, &before, &after);
         self.expect(tried::line(trial.call), hidden(&step).unwrap_or(told(trial.call, &step, changed)));
         if changed {
             self.tables();

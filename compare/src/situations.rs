@@ -1,6 +1,6 @@
 //! Situations that are easy to get wrong, counted so that a run shows that it met them.
 use crate::log::Command;
-use crate::record::{Node, Record, ACTIVE, INACTIVE, LOADING, UNLOADING};
+use crate::record::{Link, Node, Record, ACTIVE, INACTIVE, LOADING, UNLOADING};
 use crate::sizes::{DECLARATIONS, LINKS};
 
 /// A command with the tables before and after it; every answer is in `after`.
@@ -13,12 +13,21 @@ pub struct Seen<'a> {
 /// A situation's name, and whether a command met it.
 pub type Situation = (&'static str, fn(&Seen) -> bool);
 
-pub const SITUATIONS: [Situation; 23] = [
+pub const SITUATIONS: [Situation; 26] = [
     ("begin done, bound to a retired provider", |s| {
         begun(s) && s.added_links().any(|provider| s.before.nodes[provider as usize].retired == 1)
     }),
     ("begin done without dependencies at 512 links", |s| begun(s) && s.before.links.len() == LINKS),
     ("begin done in a second or later episode", |s| begun(s) && s.node().is_some_and(|n| n.generation > 0)),
+    ("begin done, bound to a provider in its second or later episode", |s| {
+        begun(s) && s.added_links().any(|provider| s.before.nodes[provider as usize].generation > 1)
+    }),
+    ("begin done, bound to a provider that began again since the consumer's last link to it", |s| {
+        begun(s) && s.met_again()
+    }),
+    ("compact_bindings done that drops a dead link before a live one with another number", |s| {
+        matches!(s.command, Command::CompactBindings) && s.dead_before_live()
+    }),
     ("begin refused 2 of a retired component", |s| {
         matches!(s.command, Command::Begin(_)) && s.after.answer == 2 && s.retired()
     }),
@@ -125,6 +134,24 @@ impl Seen<'_> {
 
     /// The providers of the links that the command added.
     fn added_links(&self) -> impl Iterator<Item = u64> + '_ {
-        self.after.links[self.before.links.len()..].iter().map(|l| l.binding.provider)
+        self.added().map(|l| l.binding.provider)
+    }
+
+    fn added(&self) -> impl Iterator<Item = &Link> {
+        self.after.links[self.before.links.len()..].iter()
+    }
+
+    /// Whether a link that the command added has another number than the last one before it with the same ends and port.
+    fn met_again(&self) -> bool {
+        let last =
+            |new: &Link| self.before.links.iter().rfind(|l| l.consumer == new.consumer && l.binding == new.binding);
+        self.added().any(|new| last(new).is_some_and(|old| old.generation != new.generation))
+    }
+
+    /// Whether a dead link stands before a live one with another number.
+    fn dead_before_live(&self) -> bool {
+        let links = &self.before.links;
+        let behind = |at: usize| links[at..].iter().any(|l| l.live == 1 && l.generation != links[at].generation);
+        (0..links.len()).any(|at| links[at].live == 0 && behind(at))
     }
 }

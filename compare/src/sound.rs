@@ -1,4 +1,4 @@
-//! Whether tables are sound: the sizes, and the eight points of docs/RULES.md.
+//! Whether tables are sound: the sizes, and the nine points of docs/RULES.md.
 use crate::record::{Link, Node, Record, INACTIVE, UNLOADING};
 use crate::sizes::{DECLARATIONS, IDENTITIES, LINKS};
 
@@ -14,6 +14,7 @@ pub fn sound(t: &Record) -> bool {
         && covered(t)
         && t.links.iter().filter(|l| l.live == 0).all(|l| dead_link(t, l))
         && (0..t.nodes.len()).all(|id| absent_node(t, id))
+        && live(t).all(|(_, l)| episode(t, l))
 }
 
 fn present(t: &Record, id: u64) -> Option<&Node> {
@@ -79,4 +80,9 @@ fn dead_link(t: &Record, l: &Link) -> bool {
 fn absent_node(t: &Record, id: usize) -> bool {
     let n = &t.nodes[id];
     n.present == 1 || n.has_parent == 0 || n.parent < id as u64
+}
+
+/// Point 9: a live link's number is its provider's generation.
+fn episode(t: &Record, l: &Link) -> bool {
+    present(t, l.binding.provider).is_some_and(|n| n.generation == l.generation)
 }

@@ -69,12 +69,17 @@ impl Tables {
         self
     }
 
+    /// A live link with its provider's generation, which is written before it.
     pub fn live(self, consumer: u64, port: Port, provider: u64) -> Tables {
-        self.link(link(consumer, port, provider, 1))
+        let generation = self.0.nodes[provider as usize].generation;
+        self.link(link(consumer, port, provider, 1, generation))
     }
 
+    /// A dead link; its number goes round, by its place, among those that a dead link may have.
     pub fn dead(self, consumer: u64, port: Port, provider: u64) -> Tables {
-        self.link(link(consumer, port, provider, 0))
+        let any = dead_numbers(self.0.nodes[provider as usize].generation);
+        let generation = any[self.0.links.len() % any.len()];
+        self.link(link(consumer, port, provider, 0, generation))
     }
 
     fn link(mut self, link: Link) -> Tables {
@@ -83,6 +88,11 @@ impl Tables {
     }
 }
 
-pub fn link(consumer: u64, Port { key, realm }: Port, provider: u64, live: u8) -> Link {
-    Link { consumer, binding: Binding { key, realm, provider }, live }
+/// Numbers of a dead link whose provider has this generation: that one, those beside it, 0 and the largest.
+pub fn dead_numbers(generation: u64) -> [u64; 5] {
+    [generation, 0, generation.wrapping_sub(1), MOST, generation.wrapping_add(1)]
+}
+
+pub fn link(consumer: u64, Port { key, realm }: Port, provider: u64, live: u8, generation: u64) -> Link {
+    Link { consumer, binding: Binding { key, realm, provider }, live, generation }
 }

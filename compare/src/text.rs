@@ -1,5 +1,5 @@
 //! Records and logs as text.
-use crate::record::Record;
+use crate::record::{Binding, Link, Record};
 
 const PHASES: [&str; 4] = ["Inactive", "Loading", "Active", "Unloading"];
 
@@ -19,8 +19,8 @@ pub fn tables(record: &Record) -> String {
         lines.push(format!("decl {at} {} {} {} {}", d.owner, d.key, d.realm, d.provides));
     }
     for (at, l) in record.links.iter().enumerate() {
-        let b = l.binding;
-        lines.push(format!("link {at} {} {} {} {} {}", l.consumer, b.key, b.realm, b.provider, l.live));
+        let Link { consumer, binding: Binding { key, realm, provider }, live, generation } = l;
+        lines.push(format!("link {at} {consumer} {key} {realm} {provider} {live} {generation}"));
     }
     lines.join("\n")
 }

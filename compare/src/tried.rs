@@ -3,7 +3,7 @@ use crate::calls::Call;
 use crate::log::{Port, LIST};
 use crate::met;
 use crate::random::Random;
-use crate::record::Record;
+use crate::record::{Link, Record};
 use crate::sizes::IDENTITIES;
 
 /// The lengths of lists of new ports that are tried on each kernel.
@@ -87,6 +87,20 @@ pub fn ports(tables: &Record, random: &mut Random) -> Vec<Port> {
         }
     }
     found.push(Port { key: 500, realm: random.next() });
+    found
+}
+
+/// The consumer and the port of some live links and of some dead ones.
+pub fn links(tables: &Record, random: &mut Random) -> Vec<(usize, Port)> {
+    let mut found: Vec<(usize, Port)> = Vec::new();
+    for live in [1, 0, 1, 0, 1, 0] {
+        let those: Vec<&Link> = tables.links.iter().filter(|l| l.live == live).collect();
+        let Some(l) = random.pick(&those) else { continue };
+        let asked = (l.consumer as usize, Port { key: l.binding.key, realm: l.binding.realm });
+        if !found.contains(&asked) {
+            found.push(asked);
+        }
+    }
     found
 }
 

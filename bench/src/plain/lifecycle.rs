@@ -19,7 +19,8 @@ impl Kernel {
                 return Err(Error::Capacity);
             }
             for &binding in &target.bindings[..target.count] {
-                k.links[k.link_count] = Link::new(id, binding);
+                let generation = k.nodes[binding.provider].generation;
+                k.links[k.link_count] = Link::new(id, binding, generation);
                 k.link_count += 1;
             }
             let node = &mut k.nodes[id];

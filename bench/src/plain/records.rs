@@ -56,9 +56,11 @@ pub struct Binding {
     pub provider: usize,
 }
 
+/// generation: the provider's when the link was made.
 #[derive(Clone, Copy, PartialEq, Eq)]
 pub struct Link {
     pub port: Port,
+    pub generation: u64,
     consumer: u8,
     provider: u8,
     pub live: bool,
@@ -86,8 +88,8 @@ pub struct Outcome<T> {
 
 const _: () = assert!(size_of::<Node>() == 16);
 const _: () = assert!(size_of::<Declaration>() == 24);
-const _: () = assert!(size_of::<Link>() == 24);
-const _: () = assert!(size_of::<Kernel>() == 19_480);
+const _: () = assert!(size_of::<Link>() == 32);
+const _: () = assert!(size_of::<Kernel>() == 23_576);
 
 const BLANK_PORT: Port = Port { key: 0, realm: 0 };
 
@@ -131,11 +133,12 @@ impl Binding {
 }
 
 impl Link {
-    pub const BLANK: Link = Link { port: BLANK_PORT, consumer: 0, provider: 0, live: false };
+    pub const BLANK: Link = Link { port: BLANK_PORT, generation: 0, consumer: 0, provider: 0, live: false };
 
-    /// A live link.
-    pub fn new(consumer: usize, binding: Binding) -> Link {
-        Link { port: binding.port, consumer: stored(consumer), provider: stored(binding.provider), live: true }
+    /// A live link, with its provider's generation.
+    pub fn new(consumer: usize, binding: Binding, generation: u64) -> Link {
+        let Binding { port, provider } = binding;
+        Link { port, generation, consumer: stored(consumer), provider: stored(provider), live: true }
     }
 
     pub fn consumer(&self) -> usize {

@@ -51,10 +51,12 @@ impl Kernel {
         })
     }
 
+    /// A live link's consumer and provider are installed and declare its port; its generation is its provider's.
     fn live_links_declared(&self) -> bool {
         self.live_links().all(|l| {
             let consumer_ok = self.node(l.consumer()).is_some_and(|n| n.installed());
-            let provider_ok = self.node(l.provider()).is_some_and(|n| n.installed() && !n.restoring);
+            let provider_ok =
+                self.node(l.provider()).is_some_and(|n| n.installed() && !n.restoring && n.generation == l.generation);
             consumer_ok
                 && provider_ok
                 && self.declares(l.consumer(), l.port, false)

@@ -51,6 +51,7 @@ fn same_link(a: Link, b: Link) -> bool {
         & port
         & (x.provider == y.provider)
         & (a.live == b.live)
+        & (a.generation == b.generation)
 }
 
 // The counts, and the three tables side by side.

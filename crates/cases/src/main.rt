@@ -33,8 +33,8 @@ fn read(line: &[u8]) -> Line {
           new back counts node decl link keep dependencies provisions \
           sound contains retired cleanup_started dependency_declared provision_reserved \
           binding_records identity_slots declaration_records check_insert check_iteration \
-          phase episode_generation ids children resolve target committed tables ",
-        b"111111113300110037560440111330001111012110",
+          phase episode_generation ids children resolve target committed link_generation tables ",
+        b"1111111133001100375704401113300011110121130",
         line,
     )
 }

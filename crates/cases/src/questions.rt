@@ -48,6 +48,16 @@ fn tables(kernel: Kernel, out: &mut [u8], at: usize) -> usize {
     text::stored::tables(out, at, kernel)
 }
 
+// The generation in the live link of a consumer and a port.
+fn linked(kernel: Kernel, line: Line, out: &mut [u8], at: usize) -> usize {
+    let port = port_of(line.second, line.third);
+    text::answers::generation(
+        out,
+        at,
+        kernel.link_generation(identity_of(line.first), port),
+    )
+}
+
 fn found(kernel: Kernel, line: Line, out: &mut [u8], at: usize) -> usize {
     let id = identity_of(line.first);
     let port = port_of(line.first, line.second);
@@ -60,6 +70,7 @@ fn found(kernel: Kernel, line: Line, out: &mut [u8], at: usize) -> usize {
         38 => text::answers::resolution(out, at, kernel.resolve(port)),
         39 => text::answers::target(out, at, kernel.target(id)),
         40 => text::answers::committed(out, at, kernel.committed(id)),
+        41 => linked(kernel, line, out, at),
         _ => tables(kernel, out, at),
     }
 }

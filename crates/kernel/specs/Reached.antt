@@ -11,6 +11,7 @@ use Rattle.model.specs.declared.Error.{Error}
 use Rattle.kernel.specs.Fields.{isSound, kernelOf, layoutOf}
 use Rattle.kernel.specs.Outcomes.{command}
 use Rattle.model.specs.Commands.{Command}
+use Rattle.model.specs.Episodes.{EpisodesAt, lastGenerations}
 use Rattle.model.specs.Iteration.{Agree, RuleAt, committedOf, last, targetOf}
 use Rattle.model.specs.Kernels.{AnsweredAt, emptyKernel, reached}
 use Rattle.model.specs.Refusals.{Reply}
@@ -34,6 +35,10 @@ begunBy cs id = last sizes cs id
 -- demand 3: one claim about every list of commands, for every identity
 abbrev pub Demand3 : Type 0
 Demand3 = (cs : List Command) (id : ℕ) → RuleAt sizes (layoutOf (reachedBy cs)) id (begunBy cs id)
+
+-- what the live links of a running component store: what its target's providers had at its latest accepted begin; one claim about every list of commands
+abbrev pub EpisodesKept : Type 0
+EpisodesKept = (cs : List Command) (id : ℕ) → EpisodesAt sizes (layoutOf (reachedBy cs)) id (lastGenerations sizes cs id)
 
 -- demand 3 in what the observers return, of an identity on two kernels (the one handed to begin, and the one now): nothing is cut,
 -- and two answers agree in count and at each place exactly if the lists that demand 3 compares are equal

@@ -17,7 +17,7 @@ use sizes::IDENTITIES;
 use sizes::LINKS;
 
 impl Kernel {
-    // begin: an Inactive component with a target becomes Loading, and the target its live links.
+    // begin: an Inactive component with a target becomes Loading, and the target its live links, each with its provider's generation.
     pub fn begin(mut self, id: usize) -> Outcome
         ensures { λ r. ⌜ Returns self (Command.begin id) r ⌝ }
     {
@@ -59,17 +59,19 @@ impl Kernel {
                 answer: Answer::Refused(Error::Capacity),
             };
         }
-        nodes[id] = records::started_node(node.generation + 1, node);
-        self.nodes = nodes;
         let mut links = self.links;
         let mut i = 0;
         while i < more {
             let b = target.bindings[i];
-            links[linked + i] = records::live_link(id, b);
+            let p = b.provider;
+            let provider = nodes[p];
+            links[linked + i] = records::live_link(id, b, provider.generation);
             i += 1;
         }
         self.links = links;
         self.link_count = linked + more;
+        nodes[id] = records::started_node(node.generation + 1, node);
+        self.nodes = nodes;
         Outcome {
             kernel: self,
             answer: Answer::Done,

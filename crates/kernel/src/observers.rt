@@ -6,7 +6,7 @@ ghost use mathlib.Core.Option.{none};
 ghost use Rattle.kernel.specs.Fields.{ask};
 ghost use Rattle.model.specs.Answers.{optionPhase, optionGeneration};
 ghost use Rattle.model.specs.Soundness.{declares};
-ghost use Rattle.model.specs.Observers.{contains, phase, retired, cleanupStarted, episodeGeneration, bindingRecords, identitySlots, declarationRecords, dependencyDeclared, provisionReserved, ids, children};
+ghost use Rattle.model.specs.Observers.{contains, phase, retired, cleanupStarted, episodeGeneration, bindingRecords, identitySlots, declarationRecords, dependencyDeclared, provisionReserved, linkGeneration, ids, children};
 ghost use Rattle.results.specs.Results.{identities};
 use crate::Kernel;
 use model::OptionGeneration;
@@ -122,6 +122,18 @@ impl Kernel {
         let declarations = self.declarations;
         let count = self.declaration_count;
         scans::declares_in(declarations, count, owner, port, provides)
+    }
+
+    // The generation that a live link of this consumer and port stores: its provider's at the consumer's begin.
+    pub fn link_generation(self, consumer: usize, port: Port) -> OptionGeneration
+        ensures { λ r. ⌜ r ≡ optionGeneration (ask self none (λ T. linkGeneration (T .links) consumer port)) ⌝ }
+    {
+        if !self.sound() {
+            return OptionGeneration::None;
+        }
+        let links = self.links;
+        let count = self.link_count;
+        scans::link_generation_in(links, count, consumer, port)
     }
 
     // The present identities, ascending.

@@ -29,7 +29,7 @@ impl Kernel {
         }
     }
 
-    // Whether the kernel is sound: counts within the sizes, blanks past them, and the eight points.
+    // Whether the kernel is sound: counts within the sizes, blanks past them, and the nine points.
     pub fn sound(self) -> bool
         ensures { λ r. ⌜ r ≡ isSound self ⌝ }
     {

@@ -23,3 +23,7 @@ declarationsOf n owner key realm provides = rowsFrom 0 n (declarationAt owner ke
 -- the yes/no of an identity in a column of n; no past the last
 abbrev pub flag : ℕ → List Bool → ℕ → Bool
 flag n fs id = ltb id n && getD fs id false
+
+-- the number of an identity in a column; 0 past the last
+abbrev pub number : List ℕ → ℕ → ℕ
+number xs id = getD xs id 0

@@ -14,6 +14,7 @@ pub mod Points
 pub mod Resolution
 pub mod Layouts
 pub mod Kernels
+pub mod Episodes
 pub mod Agreement
 pub mod Samples
 pub mod Upstream

@@ -53,14 +53,14 @@ begins id (Command.remove j) = false
 begins id Command.compactBindings = false
 begins id Command.compactDeclarations = false
 
--- what target gave on the kernel handed to the component's latest begin that was accepted
-unfoldable pub lastFrom : Sizes → Layout → ℕ → List Command → Option (List Binding) → Option (List Binding)
-lastFrom S k id [] a = a
-lastFrom S k id (c ∷ cs) a = lastFrom S ((commanded S k c) .kernel) id cs (cond (begins id c && accepted ((commanded S k c) .reply)) (targetList (targetOf S k id)) a)
+-- what was seen of the kernel handed to the component's latest begin that was accepted
+unfoldable pub lastFrom : {A : Type 0} → Sizes → (Layout → A) → Layout → ℕ → List Command → A → A
+lastFrom S seen k id [] a = a
+lastFrom S seen k id (c ∷ cs) a = lastFrom S seen ((commanded S k c) .kernel) id cs (cond (begins id c && accepted ((commanded S k c) .reply)) (seen k) a)
 
--- in a list from the empty kernel; none if there was no such begin
+-- what target gave on it, in a list from the empty kernel; none if there was no such begin
 abbrev pub last : Sizes → List Command → ℕ → Option (List Binding)
-last S cs id = lastFrom S (emptyKernel S) id cs none
+last S cs id = lastFrom S (λ k. targetList (targetOf S k id)) (emptyKernel S) id cs none
 
 -- ---- the rule, of one component
 

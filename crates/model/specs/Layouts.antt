@@ -11,7 +11,7 @@ use Rattle.model.specs.declared.records.Node.{Node}
 use Rattle.model.specs.Lists.{all, conj, padded}
 use Rattle.model.specs.Records.{blankDeclaration, blankLink, blankNode, isBlankDeclaration, isBlankLink, isBlankNode}
 use Rattle.model.specs.Sizes.{Sizes}
-use Rattle.model.specs.Soundness.{eightPoints}
+use Rattle.model.specs.Soundness.{everyPoint}
 use Rattle.model.specs.Tables.{Tables}
 
 -- the six fields of a kernel
@@ -49,9 +49,9 @@ layoutTests S k =
     ∷ all isBlankLink (drop (k .linkCount) (k .links))
     ∷ []
 
--- the rules' soundness of a kernel: counts, blanks and the eight points
+-- the rules' soundness of a kernel: counts, blanks and the nine points
 unfoldable pub soundKernel : Sizes → Layout → Bool
-soundKernel S k = conj (layoutTests S k) && eightPoints (tablesOf k)
+soundKernel S k = conj (layoutTests S k) && everyPoint (tablesOf k)
 
 -- each array is as long as its size, which its type says of every kernel value
 pub record Sized (S : Sizes) (k : Layout) : Type 0 where

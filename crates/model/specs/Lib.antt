@@ -15,7 +15,9 @@ pub mod Insertion
 pub mod Lifecycle
 pub mod Rows
 pub mod Commands
+pub mod Recorded
 pub mod Iteration
+pub mod Episodes
 pub mod Space
 pub mod Layouts
 pub mod Kernels

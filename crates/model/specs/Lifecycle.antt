@@ -16,7 +16,7 @@ use Rattle.model.specs.Records.{absentNode, deadFor, isChildOf, isInacti
 use Rattle.model.specs.Refusals.{Reply, Tests, first, orElse}
 use Rattle.model.specs.Resolution.{target, targetList}
 use Rattle.model.specs.Sizes.{Sizes, lastGeneration}
-use Rattle.model.specs.Tables.{Tables, nodeAt, withNode}
+use Rattle.model.specs.Tables.{Tables, generationAt, nodeAt, withNode}
 
 abbrev pub phaseAt : Tables → ℕ → Phase
 phaseAt T id = (nodeAt (T .nodes) id) .phase
@@ -41,9 +41,13 @@ beginTests S T id =
 abbrev pub begunNode : Node → Node
 begunNode n = startedNode (suc (n .generation)) n
 
+-- the live link of a binding, with the generation that the provider has
+abbrev pub begunLink : List Node → ℕ → Binding → Link
+begunLink ns id b = liveLink id b (generationAt ns (b .provider))
+
 -- these bindings are appended as live links
 abbrev pub begunWith : Tables → ℕ → List Binding → Tables
-begunWith T id bs = record { nodes = set (T .nodes) id (begunNode (nodeAt (T .nodes) id)); declarations = T .declarations; links = T .links ++ map (liveLink id) bs }
+begunWith T id bs = record { nodes = set (T .nodes) id (begunNode (nodeAt (T .nodes) id)); declarations = T .declarations; links = T .links ++ map (begunLink (T .nodes) id) bs }
 
 -- the target is
 abbrev pub begun : Tables → ℕ → Tables

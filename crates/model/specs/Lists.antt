@@ -40,6 +40,11 @@ module _ {A : Type 0} where
   keep p [] = []
   keep p (x ∷ xs) = cond (p x) (x ∷ keep p xs) (keep p xs)
 
+  -- the first entry that passes
+  unfoldable pub find : (A → Bool) → List A → Option A
+  find p [] = none
+  find p (x ∷ xs) = cond (p x) (some x) (find p xs)
+
   -- every entry with its place, counted from i
   unfoldable pub allAt : (ℕ → A → Bool) → ℕ → List A → Bool
   allAt f i [] = true

@@ -1,14 +1,15 @@
 -- The observers of sound tables, under their names in lib.rs.
 use mathlib.Core.Bool.{Bool, _&&_, cond, false, true}
 use mathlib.Core.List.{List}
-use mathlib.Core.Option.{Option, none, some}
+use mathlib.Core.Option.{Option, Option·map, none, some}
 use Prim.Native.Nat.{ℕ}
 use lib.ListN.{length}
 use Rattle.model.specs.declared.Phase.{Phase}
 use Rattle.model.specs.declared.Port.{Port}
-use Rattle.model.specs.Lists.{places}
+use Rattle.model.specs.declared.records.Link.{Link}
+use Rattle.model.specs.Lists.{find, places}
 use Rattle.model.specs.Records.{isChildOf}
-use Rattle.model.specs.Soundness.{declares}
+use Rattle.model.specs.Soundness.{declares, linksTo}
 use Rattle.model.specs.Tables.{Tables, nodeAt, present}
 
 abbrev pub contains : Tables → ℕ → Bool
@@ -36,6 +37,10 @@ identitySlots T = length (T .nodes)
 
 abbrev pub declarationRecords : Tables → ℕ
 declarationRecords T = length (T .declarations)
+
+-- the generation of the first live link of this consumer and port: the provider's at the consumer's begin
+abbrev pub linkGeneration : List Link → ℕ → Port → Option ℕ
+linkGeneration ls consumer p = Option·map (λ l. l .generation) (find (linksTo consumer p) ls)
 
 -- the owner need not be present
 abbrev pub dependencyDeclared : Tables → ℕ → Port → Bool

@@ -1,5 +1,5 @@
--- Soundness as docs/RULES.md words it, over places: the eight points of the tables, and the counts and blanks of a kernel.
--- Theorems/Points.antt: they are the tests `eightPoints` and `soundKernel`, and by them every stored identity was issued.
+-- Soundness as docs/RULES.md words it, over places: the nine points of the tables, and the counts and blanks of a kernel.
+-- Theorems/Points.antt: they are the tests `everyPoint` and `soundKernel`, and by them every stored identity was issued.
 use mathlib.Core.Path.{_≡_}
 use mathlib.Core.Bool.{false, true}
 use mathlib.Core.List.{List}
@@ -66,6 +66,8 @@ pub record Points (T : Tables) : Type 0 where
   pub dead : (i : ℕ) (l : Link) → At (T .links) i l → l .live ≡ false → (consumerIn l < length (T .nodes)) × (providerIn l < length (T .nodes))
   -- an absent node's parent, if any, is smaller than the node
   pub absent-parents : (i p : ℕ) (n : Node) → At (T .nodes) i n → n .present ≡ false → parentIn n ≡ Parent.Of p → p < i
+  -- a live link's generation is its provider's
+  pub episodes : (i : ℕ) (l : Link) (n : Node) → At (T .links) i l → l .live ≡ true → At (T .nodes) (providerIn l) n → l .generation ≡ n .generation
 
 -- every identity that is stored was issued, and a node's parent before the node
 pub record Issued (T : Tables) : Type 0 where
@@ -81,7 +83,7 @@ Within S T = (length (T .nodes) ≤ S .identities) × (length (T .declarations) 
 abbrev pub BlankPast : {A : Type 0} → A → ℕ → List A → Type 0
 BlankPast {A} blank count xs = (i : ℕ) (x : A) → At xs i x → count ≤ i → x ≡ blank
 
--- a kernel: counts within the sizes, blanks past them, and the eight points of its tables
+-- a kernel: counts within the sizes, blanks past them, and the nine points of its tables
 pub record KernelPoints (S : Sizes) (k : Layout) : Type 0 where
   pub nodes : k .nodeCount ≤ S .identities
   pub declarations : k .declarationCount ≤ S .declarations

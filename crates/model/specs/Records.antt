@@ -139,16 +139,16 @@ dependency o p = declarationOf o false p
 abbrev pub provision : ℕ → Port → Declaration
 provision o p = declarationOf o true p
 
--- a live link or a dead one
-abbrev pub linkOf : ℕ → Binding → Bool → Link
-linkOf id b live = record { key = b .key; realm = b .realm; consumer = id; provider = b .provider; live = live }
+-- a live link or a dead one, with the provider's generation at its begin
+abbrev pub linkOf : ℕ → Binding → ℕ → Bool → Link
+linkOf id b g live = record { key = b .key; realm = b .realm; generation = g; consumer = id; provider = b .provider; live = live }
 
-abbrev pub liveLink : ℕ → Binding → Link
-liveLink id b = linkOf id b true
+abbrev pub liveLink : ℕ → Binding → ℕ → Link
+liveLink id b g = linkOf id b g true
 
--- a link of this consumer becomes dead; another stays
+-- a link of this consumer becomes dead, and keeps its generation; another stays
 abbrev pub deadFor : ℕ → Link → Link
-deadFor id l = linkOf (consumerIn l) (bindingIn l) (l .live && not (eqb (consumerIn l) id))
+deadFor id l = linkOf (consumerIn l) (bindingIn l) (l .generation) (l .live && not (eqb (consumerIn l) id))
 
 -- ---- nodes written anew
 
@@ -181,7 +181,7 @@ abbrev pub blankDeclaration : Declaration
 blankDeclaration = declarationOf 0 false blankPort
 
 abbrev pub blankLink : Link
-blankLink = linkOf 0 blankBinding false
+blankLink = linkOf 0 blankBinding 0 false
 
 abbrev pub blankNodeTests : Node → List Bool
 blankNodeTests n = not (n .present) ∷ not (n .retired) ∷ isInactive (n .phase) ∷ not (n .restoring) ∷ noParent (parentIn n) ∷ eqb (n .generation) 0 ∷ []
@@ -196,7 +196,7 @@ abbrev pub isBlankDeclaration : Declaration → Bool
 isBlankDeclaration d = conj (blankDeclarationTests d)
 
 abbrev pub blankLinkTests : Link → List Bool
-blankLinkTests l = eqb (l .key) 0 ∷ eqb (l .realm) 0 ∷ eqb (l .consumer) 0 ∷ eqb (l .provider) 0 ∷ not (l .live) ∷ []
+blankLinkTests l = eqb (l .key) 0 ∷ eqb (l .realm) 0 ∷ eqb (l .generation) 0 ∷ eqb (l .consumer) 0 ∷ eqb (l .provider) 0 ∷ not (l .live) ∷ []
 
 abbrev pub isBlankLink : Link → Bool
 isBlankLink l = conj (blankLinkTests l)

@@ -1,4 +1,4 @@
--- The sample sequences C01 to C12, and the order of the tests, each as one table of rows: what is asked of a kernel, and what it shows.
+-- The sample sequences C01 to C12, the episodes of a provider, and the order of the tests, each as one table of rows: what is asked of a kernel, and what it shows.
 use mathlib.Core.Path.{_≡_}
 use mathlib.Core.Bool.{Bool, cond, false, true}
 use mathlib.Core.List.{List, [], _∷_, map}
@@ -16,7 +16,7 @@ use Rattle.model.specs.Interface.{portList}
 use Rattle.model.specs.Kernels.{asked, commanded, emptyKernel}
 use Rattle.model.specs.Layouts.{Layout, tablesOf}
 use Rattle.model.specs.Lifecycle.{checkIteration}
-use Rattle.model.specs.Observers.{episodeGeneration, ids, phase}
+use Rattle.model.specs.Observers.{episodeGeneration, ids, linkGeneration, phase}
 use Rattle.model.specs.Records.{bindingOf, dependency, linkOf, nodeOf, provision}
 use Rattle.model.specs.Refusals.{Reply}
 use Rattle.model.specs.Sizes.{Sizes, controller, listLimit}
@@ -28,6 +28,7 @@ pub data Ask : Type 0 where
   checks : ℕ → Ask
   phaseOf : ℕ → Ask
   generationOf : ℕ → Ask
+  linkGenerationOf : ℕ → Port → Ask
   lists : Ask
   tables : Ask
 
@@ -43,6 +44,7 @@ shown S k (Ask.does c) = Shown.says ((commanded S k c) .reply)
 shown S k (Ask.checks id) = Shown.says (asked S k (Reply.refused Error.Damaged) (λ T. checkIteration T id))
 shown S k (Ask.phaseOf id) = Shown.is (asked S k none (λ T. phase T id))
 shown S k (Ask.generationOf id) = Shown.has (asked S k none (λ T. episodeGeneration T id))
+shown S k (Ask.linkGenerationOf id p) = Shown.has (asked S k none (λ T. linkGeneration (T .links) id p))
 shown S k Ask.lists = Shown.gives (asked S k [] ids)
 shown S k Ask.tables = Shown.holds (tablesOf k)
 
@@ -51,6 +53,7 @@ after S k (Ask.does c) = (commanded S k c) .kernel
 after S k (Ask.checks id) = k
 after S k (Ask.phaseOf id) = k
 after S k (Ask.generationOf id) = k
+after S k (Ask.linkGenerationOf id p) = k
 after S k Ask.lists = k
 after S k Ask.tables = k
 
@@ -87,9 +90,9 @@ only p = portList (p ∷ [])
 abbrev P : Port
 P = port 7 1
 
--- consumer 1, provider 0
+-- consumer 1, provider 0 in its first episode
 abbrev link10 : Bool → Link
-link10 b = linkOf 1 (bindingOf P 0) b
+link10 b = linkOf 1 (bindingOf P 0) 1 b
 
 -- present and with no parent, in this phase and generation
 abbrev root : Phase → ℕ → Node
@@ -160,6 +163,40 @@ samples =
 
 abbrev pub SamplesHold : Type 0
 SamplesHold = play controller (emptyKernel controller) samples ≡ map (λ r. r .shows) samples
+
+-- ---- a provider's second and third episode, each met by a consumer's next begin
+
+abbrev episode : ℕ → List Row → List Row
+episode id rs = calls (Command.begin id) Reply.done ∷ calls (Command.finish id) Reply.done ∷ rs
+
+abbrev ended : ℕ → List Row → List Row
+ended id rs = calls (Command.leave id) Reply.done ∷ calls (Command.beginCleanup id) Reply.done ∷ calls (Command.finishCleanup id) Reply.done ∷ rs
+
+-- in the first place a dead link, whose number is not the provider's any more
+abbrev numbered : Tables
+numbered = record {
+  nodes = root Phase.Active 3 ∷ root Phase.Active 2 ∷ [];
+  declarations = provision 0 P ∷ dependency 1 P ∷ [];
+  links = linkOf 1 (bindingOf P 0) 2 false ∷ linkOf 1 (bindingOf P 0) 3 true ∷ [];
+}
+
+abbrev pub episodes : List Row
+episodes =
+    calls (Command.insert Parent.None noPorts (only P)) (Reply.issued 0) ∷
+    calls (Command.insert Parent.None (only P) noPorts) (Reply.issued 1) ∷
+    episode 0 (ended 0 (episode 0 (
+    asks (Ask.linkGenerationOf 1 P) (Shown.has none) ∷
+    episode 1 (
+    asks (Ask.linkGenerationOf 1 P) (Shown.has (some 2)) ∷
+    asks (Ask.linkGenerationOf 0 P) (Shown.has none) ∷
+    ended 1 (
+    asks (Ask.linkGenerationOf 1 P) (Shown.has none) ∷
+    ended 0 (episode 0 (episode 1 (
+    asks (Ask.linkGenerationOf 1 P) (Shown.has (some 3)) ∷
+    asks Ask.tables (Shown.holds numbered) ∷ []))))))))
+
+abbrev pub EpisodesHold : Type 0
+EpisodesHold = play controller (emptyKernel controller) episodes ≡ map (λ r. r .shows) episodes
 
 -- ---- the order of the tests of a row, where two of them apply: at small sizes, so that the tables fill soon
 

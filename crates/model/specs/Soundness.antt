@@ -1,4 +1,4 @@
--- Soundness of the tables: the rules' eight points, six of them wf of lib.rs, and the sizes.
+-- Soundness of the tables: the rules' nine points, six of them wf of lib.rs, and the sizes.
 use mathlib.Core.Bool.{Bool, Bool·beq, _&&_, false, not, true}
 use mathlib.Core.List.{List, [], _∷_}
 use Prim.Native.Nat.{ℕ}
@@ -12,7 +12,7 @@ use Rattle.model.specs.declared.Port.{Port}
 use Rattle.model.specs.Lists.{_⇒_, all, allAt, any, conj, onward}
 use Rattle.model.specs.Records.{consumerIn, declaredPort, isConsistent, ownerIn, parentIn, portIn, providerIn, samePort}
 use Rattle.model.specs.Sizes.{Sizes}
-use Rattle.model.specs.Tables.{Tables, installed, present, serving}
+use Rattle.model.specs.Tables.{Tables, generationAt, installed, present, serving}
 
 -- ---- 1: every declaration's owner is below the node count
 
@@ -89,6 +89,12 @@ smaller id (Parent.Of p) = ltb p id
 unfoldable pub absentOk : ℕ → Node → Bool
 absentOk id n = not (n .present) ⇒ smaller id (parentIn n)
 
+-- ---- 9: a live link's generation is its provider's
+
+-- `generation` tells that of each identity
+unfoldable pub episodeOk : (ℕ → ℕ) → Link → Bool
+episodeOk generation l = l .live ⇒ eqb (l .generation) (generation (providerIn l))
+
 -- ---- the whole
 
 -- the first five points, as lib.rs groups them
@@ -108,15 +114,15 @@ coverage T = all (isCovered (installed (T .nodes)) (T .links)) (T .declarations)
 unfoldable pub wf : Tables → Bool
 wf T = safetyWf T && coverage T
 
--- the last two, so that every identity that a table stores fits a byte
+-- the last three: of what is stored otherwise than in lib.rs, identities in a byte and a link's generation
 abbrev pub storedTests : Tables → List Bool
-storedTests T = all (deadOk (length (T .nodes))) (T .links) ∷ allAt absentOk 0 (T .nodes) ∷ []
+storedTests T = all (deadOk (length (T .nodes))) (T .links) ∷ allAt absentOk 0 (T .nodes) ∷ all (episodeOk (generationAt (T .nodes))) (T .links) ∷ []
 
 unfoldable pub storedWf : Tables → Bool
 storedWf T = conj (storedTests T)
 
-unfoldable pub eightPoints : Tables → Bool
-eightPoints T = wf T && storedWf T
+unfoldable pub everyPoint : Tables → Bool
+everyPoint T = wf T && storedWf T
 
 abbrev pub sizeTests : Sizes → Tables → List Bool
 sizeTests S T = leb (length (T .nodes)) (S .identities) ∷ leb (length (T .declarations)) (S .declarations) ∷ leb (length (T .links)) (S .links) ∷ []
@@ -125,4 +131,4 @@ unfoldable pub fits : Sizes → Tables → Bool
 fits S T = conj (sizeTests S T)
 
 unfoldable pub sound : Sizes → Tables → Bool
-sound S T = fits S T && eightPoints T
+sound S T = fits S T && everyPoint T

@@ -36,6 +36,9 @@ serving ns id = isServing (nodeAt ns id)
 abbrev pub providing : List Node → ℕ → Bool
 providing ns id = isProviding (nodeAt ns id)
 
+abbrev pub generationAt : List Node → ℕ → ℕ
+generationAt ns id = (nodeAt ns id) .generation
+
 -- ---- the tables with one of them anew
 
 abbrev pub withNodes : Tables → List Node → Tables

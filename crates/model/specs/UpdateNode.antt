@@ -1,4 +1,4 @@
--- update_node: not public. It writes one node anew if the tables allow it, and keeps soundness without point 6, and points 7 and 8 of a new node that has point 8.
+-- update_node: not public. It writes one node anew if the tables allow it, and keeps soundness without point 6; points 7 to 9 of a new node of which `assumed` holds.
 use mathlib.Core.Bool.{Bool, _&&_, _||_, not}
 use mathlib.Core.List.{List, [], _++_, _∷_}
 use Prim.Native.Nat.{ℕ}
@@ -6,11 +6,12 @@ use lib.Dec.{eqb}
 use Rattle.model.specs.declared.Error.{Error}
 use Rattle.model.specs.declared.records.Link.{Link}
 use Rattle.model.specs.declared.records.Node.{Node}
-use Rattle.model.specs.Lists.{any}
+use Rattle.model.specs.Lifecycle.{relies}
+use Rattle.model.specs.Lists.{_⇒_, any}
 use Rattle.model.specs.Records.{consumerIn, isChildOf, isConsistent, isInactive, parentIn, providerIn}
 use Rattle.model.specs.Refusals.{Tests}
-use Rattle.model.specs.Soundness.{parentOk}
-use Rattle.model.specs.Tables.{Tables, present}
+use Rattle.model.specs.Soundness.{absentOk, parentOk}
+use Rattle.model.specs.Tables.{Tables, generationAt, present}
 
 -- absent or Inactive: not to be the consumer of a live link
 abbrev pub idle : Node → Bool
@@ -32,3 +33,7 @@ updateNodeTests ns id n =
 -- then 7, a live link in the way
 abbrev pub updateTests : Tables → ℕ → Node → Tests
 updateTests T id n = updateNodeTests (T .nodes) id n ++ ((any (blocks id n) (T .links), Error.Relied) ∷ [])
+
+-- what update_node may assume of its new node: point 8, and that a provider with a live link keeps its generation
+abbrev pub assumed : Tables → ℕ → Node → Bool
+assumed T id n = absentOk id n && (any (relies id) (T .links) ⇒ eqb (n .generation) (generationAt (T .nodes) id))

@@ -25,9 +25,11 @@ pub struct Declaration {
     pub provides: bool,
 }
 
+// generation: the provider's at the begin that made the link.
 pub struct Link {
     pub key: u64,
     pub realm: u64,
+    pub generation: u64,
     pub consumer: u8,
     pub provider: u8,
     pub live: bool,

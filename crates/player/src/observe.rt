@@ -156,7 +156,8 @@ fn bindings(out: &mut [u8], at: usize, kernel: Kernel, id: usize, port: Port) ->
 {
     let at = resolution(out, at, kernel.resolve(port));
     let at = target(out, at, kernel.target(id));
-    committed(out, at, kernel.committed(id))
+    let at = committed(out, at, kernel.committed(id));
+    generation(out, at, kernel.link_generation(id, port))
 }
 
 // check_iteration of the identity, and check_insert of the pending lists under it, FF for no parent.

@@ -66,7 +66,8 @@ fn link(out: &mut [u8], at: usize, link: Link) -> usize
     let at = put::word(out, at, binding.key);
     let at = put::word(out, at, binding.realm);
     let at = put::word(out, at, binding.provider as u64);
-    put::flag(out, at, link.live)
+    let at = put::flag(out, at, link.live);
+    put::word(out, at, link.generation)
 }
 
 fn nodes(out: &mut [u8], at: usize, kernel: Kernel) -> usize

@@ -53,6 +53,7 @@ pub use tests::is_live_link_of;
 pub use tests::is_pending;
 pub use tests::is_providing;
 pub use tests::is_serving;
+pub use tests::links_to;
 pub use tests::no_parent;
 pub use tests::relies_on;
 pub use transitions::absent_node;

@@ -125,19 +125,21 @@ pub fn provision(owner: usize, port: Port) -> Declaration
     declaration_of(owner, true, port)
 }
 
-pub fn live_link(consumer: usize, binding: Binding) -> Link
-    ensures { λ r. ⌜ r ≡ liveLink (byteOf consumer) (byteBinding binding) ⌝ }
+// A live link of this binding, with its provider's generation.
+pub fn live_link(consumer: usize, binding: Binding, generation: u64) -> Link
+    ensures { λ r. ⌜ r ≡ liveLink (byteOf consumer) (byteBinding binding) generation ⌝ }
 {
     Link {
         key: binding.key,
         realm: binding.realm,
+        generation: generation,
         consumer: byte_of(consumer),
         provider: byte_of(binding.provider),
         live: true,
     }
 }
 
-// A link of this consumer becomes dead; another stays.
+// A link of this consumer becomes dead, and keeps its generation; another stays.
 pub fn dead_for(consumer: usize, mut link: Link) -> Link
     ensures { λ r. ⌜ r ≡ deadFor consumer link ⌝ }
 {
@@ -175,6 +177,7 @@ pub fn blank_link() -> Link
     Link {
         key: 0,
         realm: 0,
+        generation: 0,
         consumer: 0,
         provider: 0,
         live: false,
@@ -201,8 +204,8 @@ pub fn is_blank_declaration(declaration: Declaration) -> bool
 pub fn is_blank_link(link: Link) -> bool
     ensures { λ r. ⌜ r ≡ isBlankLink link ⌝ }
 {
-    let port = (link.key == 0) & (link.realm == 0);
-    port & (link.consumer == 0) & (link.provider == 0) & !link.live
+    let words = (link.key == 0) & (link.realm == 0) & (link.generation == 0);
+    words & (link.consumer == 0) & (link.provider == 0) & !link.live
 }
 
 // A declaration that is blank exactly when both are.
@@ -228,6 +231,7 @@ pub fn either_link(a: Link, b: Link) -> Link
     Link {
         key: a.key | b.key,
         realm: a.realm | b.realm,
+        generation: a.generation | b.generation,
         consumer: a.consumer | b.consumer,
         provider: a.provider | b.provider,
         live: a.live | b.live,

@@ -3,7 +3,7 @@ ghost use mathlib.Core.Path.{_≡_};
 ghost use Rattle.model.specs.Interface.{reliesOn};
 ghost use Rattle.model.specs.Records.{hasParent, isChildOf, isConsistent, isInstalled, isPending, isProviding, isServing, noParent};
 ghost use Rattle.model.specs.Resolution.{isDependencyOf, isLiveLinkOf};
-ghost use Rattle.model.specs.Soundness.{isDeclaration};
+ghost use Rattle.model.specs.Soundness.{isDeclaration, linksTo};
 use model::Declaration;
 use model::Link;
 use model::Node;
@@ -105,6 +105,15 @@ pub fn is_live_link_of(id: usize, link: Link) -> bool
     ensures { λ r. ⌜ r ≡ isLiveLinkOf id link ⌝ }
 {
     link.live & (crate::consumer_in(link) == id)
+}
+
+// A live link of this consumer with this port.
+pub fn links_to(consumer: usize, port: Port, link: Link) -> bool
+    ensures { λ r. ⌜ r ≡ linksTo consumer port link ⌝ }
+{
+    let linked = crate::port_in(link);
+    let same = crate::same_port(linked, port);
+    link.live & (crate::consumer_in(link) == consumer) & same
 }
 
 // A live link with this provider and port.

@@ -18,6 +18,7 @@ pub use nodes::child_flags;
 pub use nodes::node_flags;
 pub use nodes::places_of;
 pub use resolution::committed_in;
+pub use resolution::link_generation_in;
 pub use resolution::no_target;
 pub use resolution::resolve_table;
 pub use resolution::target_table;

@@ -1,7 +1,9 @@
-// resolve, target and committed.
+// resolve, target, committed and the generation that a live link stores.
 ghost use mathlib.Core.Path.{_≡_};
 ghost use mathlib.Core.List.{map};
 ghost use lib.ListN.{take};
+ghost use Rattle.model.specs.Answers.{optionGeneration};
+ghost use Rattle.model.specs.Observers.{linkGeneration};
 ghost use Rattle.model.specs.Records.{isProviding};
 ghost use Rattle.model.specs.Resolution.{Target, owned, lookUp, dependencyPorts, bindPorts, committed};
 ghost use Rattle.loops.specs.Columns.{declarationsOf, flag};
@@ -15,6 +17,7 @@ use loops::at_most;
 use model::Declaration;
 use model::Link;
 use model::Node;
+use model::OptionGeneration;
 use model::OptionUnresolved;
 use model::Port;
 use model::Resolution;
@@ -133,6 +136,27 @@ pub fn committed_in(links: [Link; LINKS], count: usize, id: usize) -> CommittedB
         bindings: bindings,
         count: n,
     }
+}
+
+// The generation of the first live link of this consumer and port below the count.
+pub fn link_generation_in(
+    links: [Link; LINKS],
+    count: usize,
+    consumer: usize,
+    port: Port,
+) -> OptionGeneration
+    ensures { λ r. ⌜ r ≡ optionGeneration (linkGeneration (take count links) consumer port) ⌝ }
+{
+    let end = at_most(count, LINKS);
+    let mut i = 0;
+    while i < end {
+        let l = links[i];
+        if records::links_to(consumer, port, l) {
+            return OptionGeneration::Some(l.generation);
+        }
+        i += 1;
+    }
+    OptionGeneration::None
 }
 
 // No target, since this port has no provider.

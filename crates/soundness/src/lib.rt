@@ -44,7 +44,15 @@ pub fn tables_sound(
     let mut present = [false; IDENTITIES];
     let mut installed = [false; IDENTITIES];
     let mut serving = [false; IDENTITIES];
-    if !nodes_ok(nodes, n, &mut present, &mut installed, &mut serving) {
+    let mut generation = [0u64; IDENTITIES];
+    if !nodes_ok(
+        nodes,
+        n,
+        &mut present,
+        &mut installed,
+        &mut serving,
+        &mut generation,
+    ) {
         return false;
     }
     let mut owner = [0usize; DECLARATIONS];
@@ -76,6 +84,7 @@ pub fn tables_sound(
         n,
         &installed,
         &serving,
+        &generation,
         &mut met,
     ) {
         return false;

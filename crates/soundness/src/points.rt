@@ -7,7 +7,7 @@ ghost use lib.ListN.{length, take, drop, getD, replicate};
 ghost use Rattle.model.specs.Lists.{all, any};
 ghost use Rattle.model.specs.Records.{isBlankLink};
 ghost use Rattle.model.specs.Soundness.{hasOwner, sameOwner, isDeclaration, ordered};
-ghost use Rattle.loops.specs.Columns.{declarationAt, declarationsOf, flag};
+ghost use Rattle.loops.specs.Columns.{declarationAt, declarationsOf, flag, number};
 ghost use Rattle.loops.specs.Marks.{meets, marked, unmarked};
 ghost use Rattle.loops.specs.Passes.{linkPasses};
 ghost use Rattle.loops.specs.Chains.{bucketAt, Chained};
@@ -174,8 +174,8 @@ fn meet(
     found
 }
 
-// Whether a dead link's ends are issued; a live link's ends installed, its provider serving, both declared its port, and its consumer is no provider
-// of a live link so far: its provider is marked as seen, and its consumer's dependencies on the port as met.
+// Whether a dead link's ends are issued; a live link's ends installed, its provider serving and still of the link's generation, both declared its port, and its
+// consumer is no provider of a live link so far: its provider is marked as seen, and its consumer's dependencies on the port as met.
 fn link_ok(
     owner: &[usize; DECLARATIONS],
     key: &[u64; DECLARATIONS],
@@ -187,13 +187,14 @@ fn link_ok(
     issued: usize,
     installed: &[bool; IDENTITIES],
     serving: &[bool; IDENTITIES],
+    generation: &[u64; IDENTITIES],
     link: Link,
     seen: &mut [bool; IDENTITIES],
     met: &mut [bool; DECLARATIONS],
 ) -> bool
     requires { ⌜ Chained (bucketAt (now owner) (now key) (now realm)) DECLARATIONS count (now first) (now next) × (length (now seen) ≡ IDENTITIES) × (length (now met) ≡ DECLARATIONS) ⌝ }
     ensures { λ r. ⌜
-        (r ≡ linkPasses issued (flag IDENTITIES (now (installed .entry))) (flag IDENTITIES (now (serving .entry)))
+        (r ≡ linkPasses issued (number (now (generation .entry))) (flag IDENTITIES (now (installed .entry))) (flag IDENTITIES (now (serving .entry)))
         (take count (declarationsOf DECLARATIONS (now (owner .entry)) (now (key .entry)) (now (realm .entry)) (now (provides .entry)))) link
         && unmarked (marked (now (seen .entry)) link) link)
         × (r ≡ true → (now (seen .exit) ≡ marked (now (seen .entry)) link) × (length (now (seen .exit)) ≡ IDENTITIES)
@@ -235,8 +236,9 @@ fn link_ok(
         port,
         true,
     );
+    let same = link.generation == generation[p];
     seen[p] = true;
-    wanted & offered & !seen[c]
+    wanted & offered & same & !seen[c]
 }
 
 // Whether each link below the count is ok and the links past it are blank; the dependencies that a live link meets are marked.
@@ -251,11 +253,12 @@ pub(crate) fn links_ok(
     issued: usize,
     installed: &[bool; IDENTITIES],
     serving: &[bool; IDENTITIES],
+    generation: &[u64; IDENTITIES],
     met: &mut [bool; DECLARATIONS],
 ) -> bool
     requires { ⌜ now met ≡ replicate DECLARATIONS false ⌝ }
     ensures { λ r. ⌜
-        (r ≡ (all (linkPasses issued (flag IDENTITIES (now (installed .entry))) (flag IDENTITIES (now (serving .entry)))
+        (r ≡ (all (linkPasses issued (number (now (generation .entry))) (flag IDENTITIES (now (installed .entry))) (flag IDENTITIES (now (serving .entry)))
         (take count (declarationsOf DECLARATIONS (now (owner .entry)) (now (key .entry)) (now (realm .entry)) (now (provides .entry))))) (take linked links)
         && ordered (take linked links)) && all isBlankLink (drop linked links))
         × (r ≡ true → (i : ℕ) → i < count → i < DECLARATIONS → getD (now (met .exit)) i false
@@ -282,6 +285,7 @@ pub(crate) fn links_ok(
             issued,
             installed,
             serving,
+            generation,
             l,
             &mut seen,
             met,

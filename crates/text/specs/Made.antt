@@ -42,9 +42,9 @@ pub record NodeFor (line : Line) (node : Node) : Type 0 where
 abbrev pub declarationFor : Line → Declaration
 declarationFor line = declarationOf (byteOf (line .second)) (isYes (line .fifth)) (portFor (line .third) (line .fourth))
 
--- PLACE CONSUMER KEY REALM PROVIDER LIVE
+-- PLACE CONSUMER KEY REALM PROVIDER LIVE GENERATION
 abbrev pub linkFor : Line → Link
-linkFor line = linkOf (byteOf (line .second)) (bindingOf (portFor (line .third) (line .fourth)) (byteOf (line .fifth))) (isYes (line .sixth))
+linkFor line = linkOf (byteOf (line .second)) (bindingOf (portFor (line .third) (line .fourth)) (byteOf (line .fifth))) (line .seventh) (isYes (line .sixth))
 
 -- a key, so many steps on; past the largest number it wraps
 unfoldable pub stepped : ℕ → ℕ → ℕ → ℕ

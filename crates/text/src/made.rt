@@ -72,12 +72,12 @@ pub fn declaration_of(line: Line) -> Declaration
     records::declaration_of(identity_of(line.second), line.fifth == 1, port)
 }
 
-// PLACE CONSUMER KEY REALM PROVIDER LIVE
+// PLACE CONSUMER KEY REALM PROVIDER LIVE GENERATION
 pub fn link_of(line: Line) -> Link
     ensures { λ r. ⌜ r ≡ linkFor line ⌝ }
 {
     let binding = records::binding_of(port_of(line.third, line.fourth), identity_of(line.fifth));
-    let mut link = records::live_link(identity_of(line.second), binding);
+    let mut link = records::live_link(identity_of(line.second), binding, line.seventh);
     link.live = line.sixth == 1;
     link
 }

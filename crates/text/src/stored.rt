@@ -75,6 +75,7 @@ fn link(out: &mut [u8], at: usize, place: usize, link: Link) -> usize
     let at = field(out, at, binding.realm);
     let at = field(out, at, binding.provider as u64);
     let at = flag(out, at, link.live);
+    let at = field(out, at, link.generation);
     end(out, at)
 }
 

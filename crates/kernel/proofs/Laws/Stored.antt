@@ -11,5 +11,5 @@ pub stored-parent-is : (q : Parent) → smaller IDENTITIES q ≡ true → bytePa
 stored-parent-is Parent.None h = refl
 stored-parent-is (Parent.Of p) h = ap (λ (i : ℕ). Parent.Of i) (stored-is (ltb-true p IDENTITIES h))
 
-pub stored-link-is : {id : ℕ} {b : Binding} {l : Link} → id < IDENTITIES → b .provider < IDENTITIES → l ≡ liveLink (byteOf id) (byteBinding b) → l ≡ liveLink id b
-stored-link-is {id} {b} c p e = e ∙ (λ k. liveLink (stored-is c k) (bindingOf (portOf b) (stored-is p k)))
+pub stored-link-is : {id g : ℕ} {b : Binding} {l : Link} → id < IDENTITIES → b .provider < IDENTITIES → l ≡ liveLink (byteOf id) (byteBinding b) g → l ≡ liveLink id b g
+stored-link-is {id} {g} {b} c p e = e ∙ (λ k. liveLink (stored-is c k) (bindingOf (portOf b) (stored-is p k)) g)

@@ -1,9 +1,9 @@
 -- The demands on kernel values, from the theorems about layouts of any sizes.
 use Rattle.model.proofs.Logic.{List, Option, [], _↔_, _≡_, _≤_, ap, arith, length, none, not, refl, some, sym, true, ℕ}
-use Rattle.kernel.specs.{Fields.layoutOf, Reached.Demand1, Reached.Demand3, Reached.ObserversAgree, Reached.ReachedSound, Reached.SpaceAfterCompaction, declared.Kernel.Kernel}
+use Rattle.kernel.specs.{Fields.layoutOf, Reached.Demand1, Reached.Demand3, Reached.EpisodesKept, Reached.ObserversAgree, Reached.ReachedSound, Reached.SpaceAfterCompaction, declared.Kernel.Kernel}
 use Rattle.model.specs.{Iteration.Agree, Iteration.committedOf, Iteration.targetOf, Lifecycle.bindings, Lists.isNone, Lists.padded, Records.blankBinding, Resolution.targetList, declared.Binding.Binding}
 use Rattle.results.specs.{Results.committedBindings}
-use Rattle.model.proofs.{Laws.Booleans.clash, Laws.Lists.never, Laws.Lists.some-same, Theorems.Agreement.agree-exactly, Theorems.Agreement.committed-within, Theorems.Agreement.target-within, Theorems.Kernels.every-call-answered, Theorems.Kernels.iteration-rule, Theorems.Kernels.reached-sound, Theorems.Kernels.reached-undamaged, Theorems.Space.space-after-compaction}
+use Rattle.model.proofs.{Laws.Booleans.clash, Laws.Lists.never, Laws.Lists.some-same, Theorems.Agreement.agree-exactly, Theorems.Agreement.committed-within, Theorems.Agreement.target-within, Theorems.Episodes.episode-rule, Theorems.Kernels.every-call-answered, Theorems.Kernels.iteration-rule, Theorems.Kernels.reached-sound, Theorems.Kernels.reached-undamaged, Theorems.Space.space-after-compaction}
 use Rattle.sizes.specs.{Sizes.DECLARATIONS, Sizes.LINKS, Sizes.sizes}
 
 pub demand-1 : Demand1
@@ -12,6 +12,9 @@ demand-1 k c = every-call-answered sizes (layoutOf k) c
 -- the iteration rule, of every list of the fourteen commands
 pub demand-3 : Demand3
 demand-3 cs id = iteration-rule sizes cs id
+
+pub episodes-kept : EpisodesKept
+episodes-kept cs id = episode-rule sizes cs id
 
 -- ---- in what the observers return
 

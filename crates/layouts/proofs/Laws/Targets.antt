@@ -1,6 +1,6 @@
 -- The target of a component of a sound kernel, as a scan of its arrays finds it.
 use Rattle.model.proofs.Logic.{Bool, List, Option, _++_, _+_, _-_, _<_, _||_, _∙_, _≡_, _≤_, _⊎_, ap, arith, cond, false, getD, inl, inr, le-ltb, length, length-map, lt-ltb, ltb, map, none, not, or-true, refl, set, some, sym, take, true, ℕ}
-use Rattle.model.specs.{Kernels.asked, Layouts.Layout, Layouts.Sized, Layouts.layOut, Layouts.soundKernel, Layouts.tablesOf, Lifecycle.begun, Lifecycle.begunNode, Lifecycle.bindings, Lists.isNone, Lists.keep, Lists.padded, Records.blankBinding, Records.blankLink, Records.blankNode, Records.isProviding, Records.liveLink, Records.portOf, Resolution.Target, Resolution.bindPorts, Resolution.dependencyPorts, Resolution.isDependencyOf, Resolution.lookUp, Resolution.resolve, Resolution.target, Resolution.targetList, Sizes.Sizes, Tables.nodeAt, Tables.present, declared.Binding.Binding, declared.Port.Port, declared.Resolution.Resolution, declared.records.Link.Link, declared.records.Node.Node}
+use Rattle.model.specs.{Kernels.asked, Layouts.Layout, Layouts.Sized, Layouts.layOut, Layouts.soundKernel, Layouts.tablesOf, Lifecycle.begun, Lifecycle.begunLink, Lifecycle.begunNode, Lifecycle.bindings, Lists.isNone, Lists.keep, Lists.padded, Records.blankBinding, Records.blankLink, Records.blankNode, Records.isProviding, Records.liveLink, Records.portOf, Resolution.Target, Resolution.bindPorts, Resolution.dependencyPorts, Resolution.isDependencyOf, Resolution.lookUp, Resolution.resolve, Resolution.target, Resolution.targetList, Sizes.Sizes, Tables.nodeAt, Tables.present, declared.Binding.Binding, declared.Port.Port, declared.Resolution.Resolution, declared.records.Link.Link, declared.records.Node.Node}
 use Rattle.layouts.proofs.{Laws.Anew.Holds, Laws.Anew.holds-more, Laws.Anew.links-held, Laws.Anew.linksTo, Laws.Anew.nodesTo, Laws.Nodes.node-and-links, Laws.Sound.SoundKernel, Laws.Sound.ask-sound, Laws.Sound.declaration-count-is, Laws.Sound.laid, Laws.Sound.link-count-is, Laws.Sound.node-has, Laws.Sound.node-is, Laws.Sound.nodes-flagged, Laws.Sound.present-below}
 use Rattle.loops.specs.{Columns.flag}
 use Rattle.model.proofs.{Laws.Arrays.getD-padded, Laws.Arrays.length-padded, Laws.Arrays.take-padded, Laws.Booleans.cases, Laws.Lists.length-keep, Laws.Lists.place-in, Laws.Resolution.bound-ports, Laws.Resolution.target-bound, Laws.Resolution.target-none, Laws.Resolution.target-resolved, Laws.Resolution.targeted}
@@ -136,11 +136,19 @@ module _ {S : Sizes} {k : Layout} {id : ℕ} {there : Bool} {array : List Bindin
 
   -- ---- the kernel that begin leaves
 
+  -- the links that it appends, with the generations of the array's nodes
+  abbrev fresh : List Binding → List Link
+  fresh xs = map (begunLink (k .nodes) id) xs
+
+  fresh-is : map (begunLink ((tablesOf k) .nodes) id) bs ≡ fresh bs
+  unfolding nodeAt
+  fresh-is = λ i. map (λ (b : Binding). liveLink id b ((node-is (H .kernel) (b .provider) i) .generation)) bs
+
   pub begun-laid :
       {n : Node} → n ≡ begunNode (getD (k .nodes) id blankNode) → present ((tablesOf k) .nodes) id ≡ true →
-      {ls : List Link} → ls ≡ padded (S .links) blankLink (take (k .linkCount) (k .links) ++ map (liveLink id) (take count array)) →
+      {ls : List Link} → ls ≡ padded (S .links) blankLink (take (k .linkCount) (k .links) ++ fresh (take count array)) →
       layOut S (begun (tablesOf k) id) ≡ linksTo (nodesTo k (set (k .nodes) id n) (k .nodeCount)) ls (k .linkCount + count)
   begun-laid f p h =
-      let new = map (liveLink id) bs in
-      let written = h ∙ ap (λ (xs : List Binding). padded (S .links) blankLink (take (k .linkCount) (k .links) ++ map (liveLink id) xs)) target-taken in
-      node-and-links (H .kernel) id p begunNode (ap (set (k .nodes) id) f) ((tablesOf k) .links ++ new) (holds-more (links-held (H .kernel)) new written (length-map bs (liveLink id) ∙ H .bound .counted))
+      let written = h ∙ ap (λ (xs : List Binding). padded (S .links) blankLink (take (k .linkCount) (k .links) ++ fresh xs)) target-taken in
+      rw fresh-is (node-and-links (H .kernel) id p begunNode (ap (set (k .nodes) id) f) ((tablesOf k) .links ++ fresh bs)
+      (holds-more (links-held (H .kernel)) (fresh bs) written (length-map bs (begunLink (k .nodes) id) ∙ H .bound .counted)))

@@ -1,6 +1,6 @@
 -- The order of links by one pass that marks the providers met: what is left to test, a step on, a hit and the end.
 use Rattle.model.proofs.Logic.{Bool, Bool·not-not, List, [], _&&_, _<_, _||_, _∙_, _∷_, _≡_, _⊎_, and-comm, and-false, and-true, cond, eqb, eqb-false, eqb-true, false, getD, getD-set-other, getD-set-same, inl, inr, length, ltb, ltb-true, ne-eqb, not, refl, replicate, set, suc, sym, true, zero, ℕ}
-use Rattle.model.specs.{Lists._⇒_, Lists.all, Lists.any, Lists.conj, Lists.onward, Records.consumerIn, Records.declaredPort, Records.ownerIn, Records.portIn, Records.providerIn, Soundness.apart, Soundness.deadOk, Soundness.declares, Soundness.endTests, Soundness.isCovered, Soundness.isDeclaration, Soundness.linkOk, Soundness.linkTests, Soundness.linksTo, Soundness.ordered, declared.records.Declaration.Declaration, declared.records.Link.Link}
+use Rattle.model.specs.{Lists._⇒_, Lists.all, Lists.any, Lists.conj, Lists.onward, Records.consumerIn, Records.declaredPort, Records.ownerIn, Records.portIn, Records.providerIn, Soundness.apart, Soundness.deadOk, Soundness.declares, Soundness.endTests, Soundness.episodeOk, Soundness.isCovered, Soundness.isDeclaration, Soundness.linkOk, Soundness.linkTests, Soundness.linksTo, Soundness.ordered, declared.records.Declaration.Declaration, declared.records.Link.Link}
 use Rattle.model.proofs.{Laws.Booleans.Each, Laws.Booleans.and-l, Laws.Booleans.and-r, Laws.Booleans.cases, Laws.Booleans.each, Laws.Booleans.imp-e, Laws.Lists.in-all}
 use Rattle.loops.proofs.{Laws.Chains.is-dependency, Laws.Passes.all-both}
 use Rattle.loops.specs.{Columns.flag, Marks.marked, Marks.meets, Marks.unmarked, Passes.linkPasses}
@@ -98,9 +98,10 @@ provider-below n installs serves ds l h t =
 
 -- a dead link passes where its ends are issued, marks no provider and meets no dependency
 module _ (l : Link) (t : l .live ≡ false) where
-  pub dead-ends : (issued : ℕ) (installs serves : ℕ → Bool) (ds : List Declaration) (seen : List Bool) → linkPasses issued installs serves ds l && unmarked (marked seen l) l ≡ conj (endTests issued l)
-  unfolding linkOk deadOk
-  dead-ends issued installs serves ds seen = rw t (and-true (conj (endTests issued l)))
+  pub dead-ends : (issued : ℕ) (generation : ℕ → ℕ) (installs serves : ℕ → Bool) (ds : List Declaration) (seen : List Bool)
+      → linkPasses issued generation installs serves ds l && unmarked (marked seen l) l ≡ conj (endTests issued l)
+  unfolding linkOk deadOk episodeOk
+  dead-ends issued generation installs serves ds seen = let ends = conj (endTests issued l) in rw (t, and-true ends) (and-true ends)
 
   pub dead-marked : (seen : List Bool) → marked seen l ≡ seen
   dead-marked seen = rw t
@@ -118,10 +119,10 @@ eqb-comm a b = go (cases (eqb a b))
 
 -- a live link
 module _ (l : Link) (t : l .live ≡ true) where
-  module _ (issued : ℕ) (installs serves : ℕ → Bool) (ds : List Declaration) (seen : List Bool) where
+  module _ (issued : ℕ) (generation : ℕ → ℕ) (installs serves : ℕ → Bool) (ds : List Declaration) (seen : List Bool) where
     -- an end fails
-    pub ends-fail : installs (consumerIn l) && serves (providerIn l) ≡ false → linkPasses issued installs serves ds l && unmarked (marked seen l) l ≡ false
-    unfolding linkOk deadOk
+    pub ends-fail : installs (consumerIn l) && serves (providerIn l) ≡ false → linkPasses issued generation installs serves ds l && unmarked (marked seen l) l ≡ false
+    unfolding linkOk deadOk episodeOk
     ends-fail h = rw (t, h)
 
     -- both ends declared the port
@@ -130,8 +131,9 @@ module _ (l : Link) (t : l .live ≡ true) where
 
     -- the rest decides
     pub ends-pass : installs (consumerIn l) && serves (providerIn l) ≡ true
-        → linkPasses issued installs serves ds l && unmarked (marked seen l) l ≡ both && not (getD (set seen (providerIn l) true) (consumerIn l) false)
-    unfolding linkOk deadOk
+        → linkPasses issued generation installs serves ds l && unmarked (marked seen l) l
+        ≡ both && eqb (l .generation) (generation (providerIn l)) && not (getD (set seen (providerIn l) true) (consumerIn l) false)
+    unfolding linkOk deadOk episodeOk
     ends-pass h = rw (t, h, and-true both)
 
   pub live-marked : (seen : List Bool) → set seen (providerIn l) true ≡ marked seen l

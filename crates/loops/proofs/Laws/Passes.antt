@@ -1,5 +1,5 @@
--- One pass that asks two things of each entry asks each of every entry; and what is asked of a node, by its parent.
-use Rattle.model.proofs.Logic.{Bool, List, [], _&&_, _<_, _∙_, _∷_, _≡_, _≤_, _⊎_, false, getD, inl, inr, le-ltb, lt-ltb, not, refl, suc, take, true, ℕ}
+-- One pass that asks two or three things of each entry asks each of every entry; and what is asked of a node, by its parent.
+use Rattle.model.proofs.Logic.{Bool, List, [], _&&_, _<_, _∙_, _∷_, _≡_, _≤_, _⊎_, ap, false, getD, inl, inr, le-ltb, lt-ltb, not, refl, suc, take, true, ℕ}
 use Rattle.model.specs.{Lists._⇒_, Lists.all, Lists.allAt, Records.blankNode, Records.isConsistent, Records.parentIn, Soundness.absentOk, Soundness.nodeOk, Soundness.parentOk, Soundness.smaller, declared.Parent.Parent, declared.records.Node.Node}
 use Rattle.model.proofs.{Laws.Booleans.cases}
 use Rattle.loops.proofs.{Laws.Parents.parent-early, Laws.Parents.parent-late}
@@ -16,6 +16,9 @@ pub all-both : {A : Type 0} (p q r : A → Bool) → ((x : A) → r x ≡ p x &&
 unfolding all
 all-both p q r h [] = refl
 all-both p q r h (x ∷ xs) = rw (h x, all-both p q r h xs) (regroup (p x) (q x) (all p xs) (all q xs))
+
+pub all-three : {A : Type 0} (p q r : A → Bool) (xs : List A) → all (λ x. p x && q x && r x) xs ≡ all p xs && all q xs && all r xs
+all-three p q r xs = all-both (λ x. p x && q x) r _ (λ x. refl) xs ∙ ap (λ (b : Bool). b && all r xs) (all-both p q _ (λ x. refl) xs)
 
 pub allAt-both : {A : Type 0} (p q : ℕ → A → Bool) (i : ℕ) (xs : List A) → allAt (λ j x. p j x && q j x) i xs ≡ allAt p i xs && allAt q i xs
 unfolding allAt

@@ -1,6 +1,6 @@
 -- A loop that leaves early: what is left of a table answers w, as the whole does. The start, a step on, a hit and the end, for each kind of scan.
-use Rattle.model.proofs.Logic.{Bool, List, _&&_, _+_, _<_, _∙_, _≡_, _≤_, add-one, and-assoc, and-false, and-true, ap, arith, drop, false, getD, length, slice, take, true, ℕ}
-use Rattle.model.specs.{Lists.all, Lists.allAt, Lists.any}
+use Rattle.model.proofs.Logic.{Bool, List, Option, _&&_, _+_, _<_, _∙_, _≡_, _≤_, add-one, and-assoc, and-false, and-true, ap, arith, drop, false, getD, length, none, slice, some, take, true, ℕ}
+use Rattle.model.specs.{Lists.all, Lists.allAt, Lists.any, Lists.find}
 use Rattle.loops.proofs.{Laws.Columns.rows-most, Laws.Columns.rows-next, Laws.Scan.drop-most, Laws.Scan.part-done, Laws.Scan.part-next, Laws.Scan.rest-done, Laws.Scan.rest-next, Laws.Scan.take-most}
 use Rattle.loops.specs.{Columns.rowsFrom, Limits.AtMost}
 
@@ -25,6 +25,28 @@ module _ {A : Type 0} {p : A → Bool} {xs : List A} {end i : ℕ} {w : Bool} (h
   pub seek-end : end ≤ i → false ≡ w
   unfolding any
   seek-end l = rw (part-done i end xs l, any) at (h .left)
+
+-- ---- the first entry of an array that passes
+
+pub record Finding {A : Type 0} (p : A → Bool) (xs : List A) (end i : ℕ) (w : Option A) : Type 0 where
+  pub fits : end ≤ length xs
+  pub left : find p (slice i end xs) ≡ w
+
+pub find-start : {A : Type 0} {p : A → Bool} {xs : List A} {count n end : ℕ} → length xs ≡ n → AtMost count n end → Finding p xs end 0 (find p (take count xs))
+find-start {A} {p} {xs} {count} {n} {end} e m = record { fits = omega (arith, m .within); left = ap (find p) (take-most count n end xs e m) }
+
+module _ {A : Type 0} {p : A → Bool} {xs : List A} {end i : ℕ} {w : Option A} (h : Finding p xs end i w) where
+  pub find-on : (d : A) → i < end → p (getD xs i d) ≡ false → Finding p xs end (i + 1) w
+  unfolding find
+  find-on d l t = record { fits = h .fits; left = rw (part-next d i end xs l (h .fits), find, t) at (h .left) }
+
+  pub find-hit : (d : A) → i < end → p (getD xs i d) ≡ true → some (getD xs i d) ≡ w
+  unfolding find
+  find-hit d l t = rw (part-next d i end xs l (h .fits), find, t) at (h .left)
+
+  pub find-end : end ≤ i → none ≡ w
+  unfolding find
+  find-end l = rw (part-done i end xs l, find) at (h .left)
 
 -- ---- whether all rows pass
 

@@ -21,8 +21,8 @@ blank-declaration d h =
 pub blank-link : (l : Link) → isBlankLink l ≡ true → l ≡ blankLink
 blank-link l h =
     let e : Each (blankLinkTests l) = each (blankLinkTests l) h in
-    let b : bindingIn l ≡ blankBinding = binding-is (eqb-true _ _ (e .0)) (eqb-true _ _ (e .1 .0)) (eqb-true _ _ (e .1 .1 .1 .0)) in
-    link-is (eqb-true _ _ (e .1 .1 .0)) b (not-t _ (e .1 .1 .1 .1 .0))
+    let b : bindingIn l ≡ blankBinding = binding-is (eqb-true _ _ (e .0)) (eqb-true _ _ (e .1 .0)) (eqb-true _ _ (e .1 .1 .1 .1 .0)) in
+    link-is (eqb-true _ _ (e .1 .1 .1 .0)) b (eqb-true _ _ (e .1 .1 .0)) (not-t _ (e .1 .1 .1 .1 .1 .0))
 
 -- ---- two records or-ed field by field
 
@@ -48,6 +48,7 @@ module _ (a b : Link) where
   eitherLink = record {
     key = bitOr (a .key) (b .key);
     realm = bitOr (a .realm) (b .realm);
+    generation = bitOr (a .generation) (b .generation);
     consumer = bitOr (a .consumer) (b .consumer);
     provider = bitOr (a .provider) (b .provider);
     live = a .live || b .live;
@@ -55,5 +56,5 @@ module _ (a b : Link) where
 
   pub either-link : isBlankLink eitherLink ≡ isBlankLink a && isBlankLink b
   either-link =
-      let port = both-and (both-zero (a .key) (b .key)) (both-zero (a .realm) (b .realm)) in
-      (both-and (both-and (both-and port (both-zero (a .consumer) (b .consumer))) (both-zero (a .provider) (b .provider))) (both-not (a .live) (b .live))) .says
+      let words = both-and (both-and (both-zero (a .key) (b .key)) (both-zero (a .realm) (b .realm))) (both-zero (a .generation) (b .generation)) in
+      (both-and (both-and (both-and words (both-zero (a .consumer) (b .consumer))) (both-zero (a .provider) (b .provider))) (both-not (a .live) (b .live))) .says

@@ -1,6 +1,6 @@
 -- Soundness as facts by membership, and that the test says just these.
 use Rattle.model.proofs.Logic.{Bool, Bool·beq, List, List·Memᴰ, List·getD-eq-default, Memᴰ·cast, _&&_, _<_, _≡_, _≤_, _⊎_, arith, decLt, eq-eqb, eqb, eqb-true, false, getD, inl, inr, le-leb, leb-true, length, lt-ltb, ltb-true, not, refl, sym, true, zero-add, ℕ}
-use Rattle.model.specs.{Lists.all, Lists.allAt, Lists.any, Lists.conj, Records.bindingIn, Records.blankNode, Records.consistencyTests, Records.consumerIn, Records.declarationOf, Records.declaredPort, Records.dependency, Records.isConsistent, Records.isInactive, Records.isUnloading, Records.ownerIn, Records.parentIn, Records.portIn, Records.portOf, Records.providerIn, Records.provision, Records.samePort, Sizes.Sizes, Soundness.absentOk, Soundness.coverage, Soundness.deadOk, Soundness.declares, Soundness.eightPoints, Soundness.endTests, Soundness.fits, Soundness.hasOwner, Soundness.isCovered, Soundness.isDeclaration, Soundness.linkOk, Soundness.linkTests, Soundness.linksTo, Soundness.needTests, Soundness.nodeOk, Soundness.ordered, Soundness.parentOk, Soundness.rivalTests, Soundness.safetyTests, Soundness.safetyWf, Soundness.sameOwner, Soundness.sizeTests, Soundness.smaller, Soundness.sound, Soundness.storedTests, Soundness.storedWf, Soundness.wf, Tables.Tables, Tables.installed, Tables.nodeAt, Tables.notInactive, Tables.present, Tables.serving, declared.Binding.Binding, declared.Port.Port, declared.records.Declaration.Declaration, declared.records.Link.Link, declared.records.Node.Node}
+use Rattle.model.specs.{Lists.all, Lists.allAt, Lists.any, Lists.conj, Records.bindingIn, Records.blankNode, Records.consistencyTests, Records.consumerIn, Records.declarationOf, Records.declaredPort, Records.dependency, Records.isConsistent, Records.isInactive, Records.isUnloading, Records.ownerIn, Records.parentIn, Records.portIn, Records.portOf, Records.providerIn, Records.provision, Records.samePort, Sizes.Sizes, Soundness.absentOk, Soundness.coverage, Soundness.deadOk, Soundness.declares, Soundness.endTests, Soundness.episodeOk, Soundness.everyPoint, Soundness.fits, Soundness.hasOwner, Soundness.isCovered, Soundness.isDeclaration, Soundness.linkOk, Soundness.linkTests, Soundness.linksTo, Soundness.needTests, Soundness.nodeOk, Soundness.ordered, Soundness.parentOk, Soundness.rivalTests, Soundness.safetyTests, Soundness.safetyWf, Soundness.sameOwner, Soundness.sizeTests, Soundness.smaller, Soundness.sound, Soundness.storedTests, Soundness.storedWf, Soundness.wf, Tables.Tables, Tables.generationAt, Tables.installed, Tables.nodeAt, Tables.notInactive, Tables.present, Tables.serving, declared.Binding.Binding, declared.Port.Port, declared.records.Declaration.Declaration, declared.records.Link.Link, declared.records.Node.Node}
 use Rattle.model.proofs.{Laws.Booleans.Each, Laws.Booleans.and-i, Laws.Booleans.and-l, Laws.Booleans.and-r, Laws.Booleans.cases, Laws.Booleans.clash, Laws.Booleans.each, Laws.Booleans.f-not, Laws.Booleans.imp-e, Laws.Booleans.imp-i, Laws.Booleans.not-t, Laws.Booleans.of-each, Laws.Lists.all-in, Laws.Lists.allAt-at, Laws.Lists.any-in, Laws.Lists.at-allAt, Laws.Lists.in-all, Laws.Lists.in-any, Laws.Records.declaration-is, Laws.Records.port-is}
 
 pub record NodeOk (ns : List Node) (i : ℕ) (n : Node) : Type 0 where
@@ -73,10 +73,15 @@ AbsentOk i n = n .present ≡ false → smaller i (parentIn n) ≡ true
 abbrev pub DeadOk : List Node → Link → Type 0
 DeadOk ns l = l .live ≡ false → (consumerIn l < length ns) × (providerIn l < length ns)
 
--- points 7 and 8
+-- a live link's generation is its provider's
+abbrev pub EpisodeOk : List Node → Link → Type 0
+EpisodeOk ns l = l .live ≡ true → l .generation ≡ generationAt ns (providerIn l)
+
+-- points 7 to 9
 pub record Stored (ns : List Node) (ls : List Link) : Type 0 where
   pub dead : (l : Link) → List·Memᴰ l ls → DeadOk ns l
   pub absent : (i : ℕ) → AbsentOk i (nodeAt ns i)
+  pub episodes : (l : Link) → List·Memᴰ l ls → EpisodeOk ns l
 
 pub record Sound (S : Sizes) (T : Tables) : Type 0 where
   pub sizes : Fits S T
@@ -172,22 +177,22 @@ of-live ns ds l f = imp-i (l .live) _ (λ v.
     let provider = and-i (installed ns (providerIn l)) _ (and-i (present ns (providerIn l)) _ (k .provider-present) (k .provider-installed)) (f-not _ (k .provider-kept)) in
     of-each (linkTests (installed ns) (serving ns) ds l) (consumer, (provider, (in-declares ds _ _ _ (k .needed), (in-declares ds _ _ _ (k .offered), tt)))))
 
-pub linked-of : (ls : List Link) (o : ℕ) (p : Port) → any (linksTo o p) ls ≡ true → Linked ls o p
+-- a live link of this consumer with this port
+pub links-to : (o : ℕ) (p : Port) (l : Link) → linksTo o p l ≡ true → (l .live ≡ true) × (consumerIn l ≡ o) × (portIn l ≡ p)
 unfolding linksTo
-linked-of ls o p h =
-    let (l, m, q) = any-in (linksTo o p) ls h in
+links-to o p l q =
     let q1 : l .live && eqb (consumerIn l) o ≡ true = and-l _ (samePort (portIn l) p) q in
-    record {
-      link = l;
-      among = m;
-      is-live = and-l (l .live) (eqb (consumerIn l) o) q1;
-      of-consumer = eqb-true _ _ (and-r (l .live) (eqb (consumerIn l) o) q1);
-      of-port = same-port _ _ (and-r (l .live && eqb (consumerIn l) o) _ q);
-    }
+    (and-l (l .live) (eqb (consumerIn l) o) q1, eqb-true _ _ (and-r (l .live) (eqb (consumerIn l) o) q1), same-port _ _ (and-r (l .live && eqb (consumerIn l) o) _ q))
+
+pub of-links-to : (o : ℕ) (p : Port) (l : Link) → l .live ≡ true → consumerIn l ≡ o → portIn l ≡ p → linksTo o p l ≡ true
+unfolding linksTo
+of-links-to o p l v c e = rw (v, c, e, eq-eqb o o refl, port-same p)
+
+pub linked-of : (ls : List Link) (o : ℕ) (p : Port) → any (linksTo o p) ls ≡ true → Linked ls o p
+linked-of ls o p h = let (l, m, q) = any-in (linksTo o p) ls h in let (v, c, e) = links-to o p l q in record { link = l; among = m; is-live = v; of-consumer = c; of-port = e }
 
 pub of-linked : (ls : List Link) (o : ℕ) (p : Port) → Linked ls o p → any (linksTo o p) ls ≡ true
-unfolding linksTo
-of-linked ls o p k = in-any (linksTo o p) (k .among) (rw (k .is-live, k .of-consumer, k .of-port, eq-eqb o o refl, port-same p))
+of-linked ls o p k = in-any (linksTo o p) (k .among) (of-links-to o p (k .link) (k .is-live) (k .of-consumer) (k .of-port))
 
 pub blank-ok : (ns : List Node) (i : ℕ) → NodeOk ns i blankNode
 blank-ok ns i = record { absent-inactive = λ a. refl; absent-kept = λ a. refl; restoring-present = λ a. a; restoring-unloading = λ a. clash false a refl; parent-ok = λ a. clash false a refl }
@@ -249,8 +254,12 @@ of-safe T k = of-each (safetyTests T) (owned, (in-all _ (T .declarations) (λ d 
     linked = in-all _ (T .links) (λ l m. of-live (T .nodes) (T .declarations) l (k .live l m))
 
 pub stored-of : (T : Tables) → storedWf T ≡ true → Stored (T .nodes) (T .links)
-unfolding storedWf deadOk absentOk
-stored-of T h = record { dead = dead; absent = λ i. absent i (decLt i (length (T .nodes))) }
+unfolding storedWf deadOk absentOk episodeOk
+stored-of T h = record {
+  dead = dead;
+  absent = λ i. absent i (decLt i (length (T .nodes)));
+  episodes = λ l m v. eqb-true _ _ (imp-e (l .live) _ (all-in (episodeOk (generationAt (T .nodes))) m (e .1 .1 .0)) v);
+}
   where
     e : Each (storedTests T)
     e = each (storedTests T) h
@@ -266,9 +275,12 @@ stored-of T h = record { dead = dead; absent = λ i. absent i (decLt i (length (
     absent i (no l) = unfold nodeAt in rw (List·getD-eq-default (T .nodes) blankNode {n = i} (omega arith)) (λ a. refl)
 
 pub of-stored : (T : Tables) → Stored (T .nodes) (T .links) → storedWf T ≡ true
-unfolding storedWf deadOk absentOk
-of-stored T k = of-each (storedTests T) (in-all _ (T .links) dead, (at-allAt absentOk 0 (T .nodes) blankNode (λ i l. rw (zero-add i) (absent i)), tt))
+unfolding storedWf deadOk absentOk episodeOk
+of-stored T k = of-each (storedTests T) (in-all _ (T .links) dead, (at-allAt absentOk 0 (T .nodes) blankNode (λ i l. rw (zero-add i) (absent i)), (in-all _ (T .links) episode, tt)))
   where
+    episode : (l : Link) → List·Memᴰ l (T .links) → episodeOk (generationAt (T .nodes)) l ≡ true
+    episode l m = imp-i (l .live) _ (λ v. eq-eqb _ _ (k .episodes l m v))
+
     dead : (l : Link) → List·Memᴰ l (T .links) → deadOk (length (T .nodes)) l ≡ true
     dead l m = imp-i (not (l .live)) _ (λ a.
         let (c, p) = k .dead l m (not-t _ a) in
@@ -286,14 +298,14 @@ unfolding fits
 of-fits S T k = of-each (sizeTests S T) (le-leb _ _ (k .nodes), (le-leb _ _ (k .declarations), (le-leb _ _ (k .links), tt)))
 
 pub facts : (S : Sizes) (T : Tables) → sound S T ≡ true → Sound S T
-unfolding sound eightPoints wf
+unfolding sound everyPoint wf
 facts S T h =
-    let p : eightPoints T ≡ true = and-r (fits S T) _ h in
+    let p : everyPoint T ≡ true = and-r (fits S T) _ h in
     let w : wf T ≡ true = and-l (wf T) _ p in
     record { sizes = fits-of S T (and-l (fits S T) _ h); safe = safe-of T (and-l (safetyWf T) _ w); covered = covered-of T (and-r (safetyWf T) _ w); stored = stored-of T (and-r (wf T) _ p) }
 
 pub of-facts : (S : Sizes) (T : Tables) → Sound S T → sound S T ≡ true
-unfolding sound eightPoints wf
+unfolding sound everyPoint wf
 of-facts S T k = and-i (fits S T) _ (of-fits S T (k .sizes)) (and-i (wf T) _ (and-i (safetyWf T) _ (of-safe T (k .safe)) (of-covered T (k .covered))) (of-stored T (k .stored)))
 
 -- a node that is not Unloading is not restoring

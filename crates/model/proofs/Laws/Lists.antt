@@ -1,7 +1,7 @@
 -- What the tests on lists say, by membership and by place.
-use Rattle.model.proofs.Logic.{Bool, List, List·Memᴰ, List·Memᴰ·head, List·Memᴰ·not-nil, List·Memᴰ·tail, Option, [], _++_, _+_, _<_, _||_, _∷_, _≡_, _≤_, add-zero, ap, arith, cond, false, getD, length, map, none, refl, some, suc, sym, true, true≢false, zero, ℕ}
-use Rattle.model.proofs.{Laws.Booleans.and-i, Laws.Booleans.and-l, Laws.Booleans.and-r, Laws.Booleans.clash, Laws.Booleans.or-f-l, Laws.Booleans.or-f-r}
-use Rattle.model.specs.{Lists.all, Lists.allAt, Lists.any, Lists.isNone, Lists.keep, Lists.onward, Points.Among, Points.At}
+use Rattle.model.proofs.Logic.{Bool, List, List·Memᴰ, List·Memᴰ·cases-cons, List·Memᴰ·head, List·Memᴰ·not-nil, List·Memᴰ·tail, Option, [], _++_, _+_, _<_, _||_, _∷_, _≡_, _≤_, _⊎_, add-zero, ap, arith, cond, false, getD, inl, inr, length, map, none, refl, some, suc, sym, true, true≢false, zero, ℕ, ⊎-elim}
+use Rattle.model.proofs.{Laws.Booleans.and-i, Laws.Booleans.and-l, Laws.Booleans.and-r, Laws.Booleans.cases, Laws.Booleans.clash, Laws.Booleans.or-f-l, Laws.Booleans.or-f-r}
+use Rattle.model.specs.{Lists.all, Lists.allAt, Lists.any, Lists.find, Lists.isNone, Lists.keep, Lists.onward, Points.Among, Points.At}
 
 -- ---- membership
 
@@ -69,6 +69,53 @@ module _ {A : Type 0} where
 
   pub all-keep : (q p : A → Bool) (xs : List A) → all p xs ≡ true → all p (keep q xs) ≡ true
   all-keep q p xs h = in-all p (keep q xs) (λ x m. all-in p ((in-keep q xs m) .0) h)
+
+pub never : {C : Type 0} {A : Type 0} (a : A) → _≡_ {A = Option A} none (some a) → C
+never a e = let z : _≡_ {A = ℕ} 0 1 = cc in absurd (omega arith)
+
+pub some-same : {A : Type 0} {a b : A} → some a ≡ some b → a ≡ b
+some-same e = cc
+
+-- the entry that find gives, and that none passes
+module _ {A : Type 0} (p : A → Bool) where
+  pub find-in : (xs : List A) {x : A} → find p xs ≡ some x → List·Memᴰ x xs × (p x ≡ true)
+  unfolding find
+  find-in [] e = never _ e
+  find-in (y ∷ ys) {x} e = go (p y) refl e (find-in ys)
+    where
+      go : (b : Bool) → p y ≡ b → cond b (some y) (find p ys) ≡ some x → (find p ys ≡ some x → List·Memᴰ x ys × (p x ≡ true)) → List·Memᴰ x (y ∷ ys) × (p x ≡ true)
+      go true h q f = let same : y ≡ x = some-same q in (List·Memᴰ·head (sym same), rw (← same) h)
+      go false h q f = let (m, r) = f q in (List·Memᴰ·tail m, r)
+
+  pub none-found : (xs : List A) {x : A} → find p xs ≡ none → List·Memᴰ x xs → p x ≡ false
+  unfolding find
+  none-found [] e m = absurd (List·Memᴰ·not-nil m)
+  none-found (y ∷ ys) {x} e m = go (p y) refl e (none-found ys)
+    where
+      go : (b : Bool) → p y ≡ b → cond b (some y) (find p ys) ≡ none → (find p ys ≡ none → List·Memᴰ x ys → p x ≡ false) → p x ≡ false
+      go true h q f = never _ (sym q)
+      go false h q f = ⊎-elim (λ same. rw same h) (f q) (List·Memᴰ·cases-cons m)
+
+-- two functions that agree on the entries
+pub map-same : {A B : Type 0} {f g : A → B} (xs : List A) → ((x : A) → List·Memᴰ x xs → f x ≡ g x) → map f xs ≡ map g xs
+map-same [] e = refl
+map-same (x ∷ xs) e = λ i. e x (List·Memᴰ·head refl) i ∷ map-same xs (λ y m. e y (List·Memᴰ·tail m)) i
+
+-- a test of what f gives: of the entries, or of the list that f makes of them
+module _ {A B : Type 0} (f : A → B) (p : B → Bool) where
+  pub any-map : (xs : List A) → any (λ x. p (f x)) xs ≡ any p (map f xs)
+  unfolding any
+  any-map [] = refl
+  any-map (x ∷ xs) = ap (λ (b : Bool). p (f x) || b) (any-map xs)
+
+  pub keep-map : (xs : List A) → map f (keep (λ x. p (f x)) xs) ≡ keep p (map f xs)
+  unfolding keep
+  keep-map [] = refl
+  keep-map (x ∷ xs) = go (p (f x)) (keep-map xs)
+    where
+      go : (b : Bool) → map f (keep (λ x. p (f x)) xs) ≡ keep p (map f xs) → map f (cond b (x ∷ keep (λ x. p (f x)) xs) (keep (λ x. p (f x)) xs)) ≡ cond b (f x ∷ keep p (map f xs)) (keep p (map f xs))
+      go true ih = ap (λ (ys : List B). f x ∷ ys) ih
+      go false ih = ih
 
 pub in-map : {A B : Type 0} (f : A → B) (xs : List A) {y : B} → List·Memᴰ y (map f xs) → (x : A) × List·Memᴰ x xs × (y ≡ f x)
 in-map f (x ∷ xs) (List·Memᴰ·head e) = (x, List·Memᴰ·head refl, e)
@@ -167,8 +214,3 @@ module _ {A : Type 0} where
       go false e false d ih = ih
 
 -- none is no list
-pub never : {C : Type 0} {A : Type 0} (a : A) → _≡_ {A = Option A} none (some a) → C
-never a e = let z : _≡_ {A = ℕ} 0 1 = cc in absurd (omega arith)
-
-pub some-same : {A : Type 0} {a b : A} → some a ≡ some b → a ≡ b
-some-same e = cc

@@ -1,7 +1,7 @@
 -- The entry test, piece by piece: a piece that fails fails the whole, and the pieces together are the whole.
 use Rattle.model.proofs.Logic.{Bool, _≡_, and-true, false, refl, true}
 use Rattle.model.proofs.{Laws.Booleans.Each, Laws.Booleans.and-l, Laws.Booleans.and-r, Laws.Booleans.clash, Laws.Booleans.each, Laws.Booleans.of-each}
-use Rattle.model.specs.{Layouts.Layout, Layouts.layoutTests, Layouts.soundKernel, Layouts.tablesOf, Lists.conj, Sizes.Sizes, Soundness.coverage, Soundness.eightPoints, Soundness.safetyTests, Soundness.safetyWf, Soundness.storedTests, Soundness.storedWf, Soundness.wf}
+use Rattle.model.specs.{Layouts.Layout, Layouts.layoutTests, Layouts.soundKernel, Layouts.tablesOf, Lists.conj, Sizes.Sizes, Soundness.coverage, Soundness.everyPoint, Soundness.safetyTests, Soundness.safetyWf, Soundness.storedTests, Soundness.storedWf, Soundness.wf}
 
 pub refuted : (b : Bool) → (b ≡ true → ⊥) → b ≡ false
 refuted true f = absurd (f refl)
@@ -15,10 +15,10 @@ pub record Pieces (S : Sizes) (k : Layout) : Type 0 where
   pub stored : Each (storedTests (tablesOf k))
 
 pub pieces : (S : Sizes) (k : Layout) → soundKernel S k ≡ true → Pieces S k
-unfolding soundKernel eightPoints wf safetyWf storedWf
+unfolding soundKernel everyPoint wf safetyWf storedWf
 pieces S k h =
     let T = tablesOf k in
-    let p : eightPoints T ≡ true = and-r (conj (layoutTests S k)) _ h in
+    let p : everyPoint T ≡ true = and-r (conj (layoutTests S k)) _ h in
     let w : wf T ≡ true = and-l (wf T) _ p in
     record {
       layout = each (layoutTests S k) (and-l (conj (layoutTests S k)) _ h);
@@ -33,5 +33,5 @@ unsound-by S k b e f = refuted (soundKernel S k) (λ h. clash {A = ⊥} b (f (pi
 
 -- all pieces but the coverage: what is left is that
 pub sound-rest : (S : Sizes) (k : Layout) → Each (layoutTests S k) → Each (safetyTests (tablesOf k)) → Each (storedTests (tablesOf k)) → soundKernel S k ≡ coverage (tablesOf k)
-unfolding soundKernel eightPoints wf safetyWf storedWf
+unfolding soundKernel everyPoint wf safetyWf storedWf
 sound-rest S k l s t = rw (of-each (layoutTests S k) l, of-each (safetyTests (tablesOf k)) s, of-each (storedTests (tablesOf k)) t) (and-true (coverage (tablesOf k)))

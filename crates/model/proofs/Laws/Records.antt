@@ -11,8 +11,8 @@ binding-is k r o = λ i. record { key = k i; realm = r i; provider = o i }
 pub declaration-is : {d e : Declaration} → ownerIn d ≡ ownerIn e → declaredPort d ≡ declaredPort e → d .provides ≡ e .provides → d ≡ e
 declaration-is o p b = λ i. record { owner = o i; port = p i; provides = b i }
 
-pub link-is : {l m : Link} → consumerIn l ≡ consumerIn m → bindingIn l ≡ bindingIn m → l .live ≡ m .live → l ≡ m
-link-is c b v = λ i. record { key = b i .key; realm = b i .realm; consumer = c i; provider = b i .provider; live = v i }
+pub link-is : {l m : Link} → consumerIn l ≡ consumerIn m → bindingIn l ≡ bindingIn m → l .generation ≡ m .generation → l .live ≡ m .live → l ≡ m
+link-is c b g v = λ i. record { key = b i .key; realm = b i .realm; generation = g i; consumer = c i; provider = b i .provider; live = v i }
 
 -- ---- identities in one byte: what is stored is a number below 256, and that of an identity below 256 is the identity
 

@@ -1,6 +1,6 @@
 -- What one node anew, other links or other declarations leave of the facts.
-use Rattle.model.proofs.Logic.{Bool, List, List·Memᴰ, _<_, _≡_, _⊎_, false, inl, inr, le-trans, length, length-set, not, refl, set, sym, true, ℕ}
-use Rattle.model.specs.{Lists.keep, Records.bindingIn, Records.consumerIn, Records.dependency, Records.isInactive, Records.isUnloading, Records.ownerIn, Records.parentIn, Records.portIn, Records.providerIn, Records.provision, Sizes.Sizes, Soundness.ordered, Soundness.parentOk, Tables.Tables, Tables.nodeAt, Tables.notInactive, Tables.present, Tables.withDeclarations, Tables.withLinks, Tables.withNode, declared.Parent.Parent, declared.records.Declaration.Declaration, declared.records.Link.Link, declared.records.Node.Node}
+use Rattle.model.proofs.Logic.{Bool, List, List·Memᴰ, _<_, _∙_, _≡_, _⊎_, false, inl, inr, le-trans, length, length-set, not, refl, set, sym, true, ℕ}
+use Rattle.model.specs.{Lists.keep, Records.bindingIn, Records.consumerIn, Records.dependency, Records.isInactive, Records.isUnloading, Records.ownerIn, Records.parentIn, Records.portIn, Records.providerIn, Records.provision, Sizes.Sizes, Soundness.ordered, Soundness.parentOk, Tables.Tables, Tables.generationAt, Tables.nodeAt, Tables.notInactive, Tables.present, Tables.withDeclarations, Tables.withLinks, Tables.withNode, declared.Parent.Parent, declared.records.Declaration.Declaration, declared.records.Link.Link, declared.records.Node.Node}
 use Rattle.model.proofs.{Laws.Booleans.cases, Laws.Booleans.clash, Laws.Facts.AbsentOk, Laws.Facts.Covered, Laws.Facts.Fits, Laws.Facts.LinkOk, Laws.Facts.LiveOk, Laws.Facts.NodeOk, Laws.Facts.Safe, Laws.Facts.Sound, Laws.Facts.Stored, Laws.Facts.Unique, Laws.Lists.in-keep, Laws.Lists.keep-in, Laws.Lists.length-keep, Laws.Nodes.at-set, Laws.Nodes.parent-kept, Laws.Nodes.present-lt}
 
 -- what a live link's consumer is, and what its provider is
@@ -84,20 +84,31 @@ module _ (T : Tables) (id : ℕ) (n : Node) (k : Safe T) (u : Update T id n) whe
 pub fits-update : (S : Sizes) (T : Tables) (id : ℕ) (n : Node) → Fits S T → Fits S (withNode T id n)
 fits-update S T id n k = record { nodes = rw (length-set (T .nodes) id n) (k .nodes); declarations = k .declarations; links = k .links }
 
--- a node anew whose parent, if it is absent, is smaller
-pub stored-update : (ns : List Node) (ls : List Link) (id : ℕ) (n : Node) → id < length ns → Stored ns ls → AbsentOk id n → Stored (set ns id n) ls
-stored-update ns ls id n l k a = record { dead = λ x m v. rw (length-set ns id n) (k .dead x m v); absent = at-set AbsentOk ns id n l a (k .absent) }
+-- where a live link has it as provider, the node keeps its generation
+abbrev pub KeepsEpisode : List Node → List Link → ℕ → Node → Type 0
+KeepsEpisode ns ls id n = (l : Link) → List·Memᴰ l ls → l .live ≡ true → providerIn l ≡ id → n .generation ≡ generationAt ns id
+
+-- a node anew that does, and whose parent, if it is absent, is smaller
+pub stored-update : (ns : List Node) (ls : List Link) (id : ℕ) (n : Node) → id < length ns → Stored ns ls → AbsentOk id n → KeepsEpisode ns ls id n → Stored (set ns id n) ls
+stored-update ns ls id n l k a g = record {
+  dead = λ x m v. rw (length-set ns id n) (k .dead x m v);
+  absent = at-set AbsentOk ns id n l a (k .absent);
+  episodes = λ x m v.
+      let was : (i : ℕ) → i ≡ providerIn x → x .generation ≡ generationAt ns i = λ i e. rw e (k .episodes x m v) in
+      at-set (λ i y. i ≡ providerIn x → x .generation ≡ y .generation) ns id n l (λ e. was id e ∙ sym (g x m v (sym e))) was (providerIn x) refl;
+}
 
 pub sound-update :
     (S : Sizes) (T : Tables) (id : ℕ) (n : Node) → Sound S T → Update T id n
     → (not (isInactive (n .phase)) ≡ true → notInactive (T .nodes) id ≡ true)
     → AbsentOk id n
+    → KeepsEpisode (T .nodes) (T .links) id n
     → Sound S (withNode T id n)
-sound-update S T id n k u f a = record {
+sound-update S T id n k u f a g = record {
   sizes = fits-update S T id n (k .sizes);
   safe = safe-update T id n (k .safe) u;
   covered = covered-update T id n (k .safe) u (k .covered) f;
-  stored = stored-update (T .nodes) (T .links) id n (present-lt (T .nodes) id (u .there)) (k .stored) a;
+  stored = stored-update (T .nodes) (T .links) id n (present-lt (T .nodes) id (u .there)) (k .stored) a g;
 }
 
 -- other links

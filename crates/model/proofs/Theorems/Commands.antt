@@ -30,7 +30,7 @@ empty-sound S = of-facts S empty (record {
     order = unfold onward in refl;
   };
   covered = λ d m. absurd (List·Memᴰ·not-nil m);
-  stored = record { dead = λ l m. absurd (List·Memᴰ·not-nil m); absent = λ i. unfold nodeAt in λ a. refl };
+  stored = record { dead = λ l m. absurd (List·Memᴰ·not-nil m); absent = λ i. unfold nodeAt in λ a. refl; episodes = λ l m. absurd (List·Memᴰ·not-nil m) };
 })
 
 pub step-sound : (S : Sizes) (T : Tables) (c : Command) → sound S T ≡ true → sound S ((step S T c) .tables) ≡ true

@@ -36,9 +36,13 @@ module _ (S : Sizes) (T : Tables) where
       let b′ : other (ownerIn d) = at-set-other (λ i n. not (isInactive (n .phase)) ≡ true → other i) (T .nodes) id n lt (λ x. clash false x refl) (λ i ne x. (ne, x)) (ownerIn d) b in
       dead-linked id (ownerIn d) (declaredPort d) (b′ .0) (k .covered d m q a′ (b′ .1))
 
-  -- a link that is dead was so, or was live, and then its ends were present
+  -- a link that is dead was so, or was live, and then its ends were present; one that is live was so
   dead-stored : (id : ℕ) → Sound S T → Stored (T .nodes) (map (deadFor id) (T .links))
-  dead-stored id k = record { dead = λ l m. let (o, n, e) = in-map (deadFor id) (T .links) m in rw e (λ v. ends o n (cases (o .live))); absent = k .stored .absent }
+  dead-stored id k = record {
+    dead = λ l m. let (o, n, e) = in-map (deadFor id) (T .links) m in rw e (λ v. ends o n (cases (o .live)));
+    absent = k .stored .absent;
+    episodes = λ l m. let (o, n, e) = in-map (deadFor id) (T .links) m in rw e (λ v. k .stored .episodes o n (and-l (o .live) _ v));
+  }
     where
       ends : (o : Link) → List·Memᴰ o (T .links) → (o .live ≡ true) ⊎ (o .live ≡ false) → (consumerIn o < length (T .nodes)) × (providerIn o < length (T .nodes))
       ends o n (inl v) = (present-lt _ _ (k .safe .live o n v .consumer-present), present-lt _ _ (k .safe .live o n v .provider-present))
@@ -67,5 +71,5 @@ module _ (S : Sizes) (T : Tables) where
           provides = λ l m v e. clash _ r (rw e at (dead-safe id (k .safe) .live l m v .provider-kept));
         });
         covered = λ d m q a b. dead-covered id k t d m q a b;
-        stored = stored-update (T .nodes) L id (restoredNode n) (present-lt _ _ t) (dead-stored id k) (λ a. clash _ t a);
+        stored = stored-update (T .nodes) L id (restoredNode n) (present-lt _ _ t) (dead-stored id k) (λ a. clash _ t a) (λ l m v e. refl);
       }

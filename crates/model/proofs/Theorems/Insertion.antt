@@ -47,7 +47,11 @@ module _ (S : Sizes) (T : Tables) where
       order = k .safe .order;
     };
     covered = λ d m p a b. cov d (List·Memᴰ·append-cases (T .declarations) m) p a b;
-    stored = record { dead = λ l m v. let (c, p) = k .stored .dead l m v in (longer c, longer p); absent = at-snoc AbsentOk (T .nodes) (newNode par) (λ a. clash true refl a) (k .stored .absent) };
+    stored = record {
+      dead = λ l m v. let (c, p) = k .stored .dead l m v in (longer c, longer p);
+      absent = at-snoc AbsentOk (T .nodes) (newNode par) (λ a. clash true refl a) (k .stored .absent);
+      episodes = λ l m v. k .stored .episodes l m v ∙ ap (λ (n : Node). n .generation) (sym (same (providerIn l) (k .safe .live l m v .provider-present)));
+    };
   }
     where
       id : ℕ

@@ -1,5 +1,5 @@
 -- The iteration rule on tables.
-use Rattle.model.proofs.Logic.{Bool, List, List·Memᴰ, List·Memᴰ·head, List·Memᴰ·tail, Option, [], _∙_, _∷_, _≡_, ap, arith, cons≢nil, false, head-eq-of-cons-eq, map, nil≢cons, none, not, refl, some, sym, tail-eq-of-cons-eq, true, ℕ}
+use Rattle.model.proofs.Logic.{Bool, List, List·Memᴰ, List·Memᴰ·head, List·Memᴰ·tail, Option, Option·map, [], _∙_, _∷_, _≡_, ap, arith, cons≢nil, false, head-eq-of-cons-eq, map, nil≢cons, none, not, refl, some, sym, tail-eq-of-cons-eq, true, ℕ}
 use contract.Running.{tables}
 use Rattle.model.specs.{Commands.Command, Commands.Step, Commands.settle, Commands.step, Iteration.Rule, Iteration.loads, Iteration.runs, Lifecycle.checkIteration, Lifecycle.iterationTests, Lifecycle.leaveIfChangedTests, Lifecycle.left, Lifecycle.phaseAt, Lists.isNone, Lists.keep, Observers.phase, Records.bindingIn, Records.consumerIn, Records.isLoading, Records.isRunning, Records.portIn, Records.portOf, Records.providerIn, Records.provision, Records.withPhase, Refusals.Reply, Refusals.first, Refusals.orElse, Resolution.committed, Resolution.dependencyPorts, Resolution.isLiveLinkOf, Resolution.target, Resolution.targetList, Sizes.Sizes, Soundness.sound, Tables.Tables, Tables.nodeAt, Tables.present, declared.Binding.Binding, declared.Error.Error, declared.Phase.Phase, declared.records.Link.Link}
 use Rattle.model.proofs.{Laws.Booleans.clash, Laws.Committed.live-link-of, Laws.Facts.LiveOk, Laws.Facts.Safe, Laws.Facts.facts, Laws.Lists.in-keep, Laws.Lists.in-map, Laws.Lists.never, Laws.Nodes.at-same, Laws.Nodes.present-lt, Laws.Phases.loading-running, Laws.Phases.running-installed, Laws.Refusals.skip, Laws.Resolution.Resolved, Laws.Resolution.Targeted, Laws.Resolution.bound-ports, Laws.Resolution.target-resolved, Laws.Resolution.targeted, Theorems.IterationInvariant.IterationInvariant}
@@ -75,7 +75,7 @@ abbrev pub RuleOn : Sizes → Tables → ℕ → Option (List Binding) → Type 
 RuleOn S T id a = let o = step S T (Command.leaveIfChanged id) in Rule (phase T id) a (committed (T .links) id) (targetList (target T id)) (checkIteration T id) (o .reply) (phase (o .tables) id)
 
 -- a phase as the observer gives it
-observed :
+pub observed :
     (T : Tables) (id : ℕ) (f : Phase → Bool) (g : Option Phase → Bool)
     → g none ≡ false
     → ((x : Phase) → g (some x) ≡ f x)
@@ -87,32 +87,40 @@ observed T id f g n s h = go (present (T .nodes) id) refl
     go true e = (e, sym (s (phaseAt T id)) ∙ (rw (e, phase) at h))
     go false e = clash _ (rw (e, phase) at h) n
 
-module _ (S : Sizes) (T : Tables) (h : sound S T ≡ true) (id : ℕ) (a : Option (List Binding)) (q : IterationInvariant T id a) where
+module _ (S : Sizes) (T : Tables) (h : sound S T ≡ true) (id : ℕ) (a : Option (List Link)) (q : IterationInvariant T id a) where
+  -- what target gave then: the bindings of the links that begin appended
+  abbrev begun : Option (List Binding)
+  begun = Option·map (map bindingIn) a
+
+  as-begun : isRunning (phaseAt T id) ≡ true → begun ≡ some (committed (T .links) id)
+  unfolding committed
+  as-begun r = ap (Option·map (map bindingIn)) (q .as-begun r)
+
   running : runs (phase T id) ≡ true → (present (T .nodes) id ≡ true) × (isRunning (phaseAt T id) ≡ true)
   running r = observed T id isRunning runs refl (λ x. refl) r
 
   isloading : loads (phase T id) ≡ true → (present (T .nodes) id ≡ true) × (isLoading (phaseAt T id) ≡ true)
   isloading r = observed T id isLoading loads refl (λ x. refl) r
 
-  same : (bs : List Binding) → targetList (target T id) ≡ some bs → isRunning (phaseAt T id) ≡ true → targetList (target T id) ≡ a
-  same bs e r = e ∙ ap some (target-committed T id bs (facts S T h .safe) (q .ports (running-installed (phaseAt T id) r)) e) ∙ sym (q .as-begun r)
+  same : (bs : List Binding) → targetList (target T id) ≡ some bs → isRunning (phaseAt T id) ≡ true → targetList (target T id) ≡ begun
+  same bs e r = e ∙ ap some (target-committed T id bs (facts S T h .safe) (q .ports (running-installed (phaseAt T id) r)) e) ∙ sym (as-begun r)
 
   loaded : isLoading (phaseAt T id) ≡ true → isRunning (phaseAt T id) ≡ true
   loaded l = loading-running (phaseAt T id) l
 
-  pub rule : RuleOn S T id a
+  pub rule : RuleOn S T id begun
   rule = go (targetList (target T id)) refl
     where
-      go : (o : Option (List Binding)) → targetList (target T id) ≡ o → RuleOn S T id a
+      go : (o : Option (List Binding)) → targetList (target T id) ≡ o → RuleOn S T id begun
       go none e = record {
-        committed-is = λ r. q .as-begun ((running r) .1);
-        check-accepts = λ m. let (t, l) = isloading m in (λ x. refusal-not-done Error.Changed (sym (check-changed S T id t e l) ∙ x), λ x. never _ (sym e ∙ x ∙ q .as-begun (loaded l)));
+        committed-is = λ r. as-begun ((running r) .1);
+        check-accepts = λ m. let (t, l) = isloading m in (λ x. refusal-not-done Error.Changed (sym (check-changed S T id t e l) ∙ x), λ x. never _ (sym e ∙ x ∙ as-begun (loaded l)));
         check-refuses = λ m x. let (t, l) = isloading m in check-changed S T id t e l;
-        leave-accepts = λ m. let (t, r) = running m in (λ x y. never {C = ⊥} _ (sym e ∙ y ∙ q .as-begun r), λ x. rw (leave-done S T id t e r) (unfold away in refl, away-unloading S T id t));
-        leave-refuses = λ m x. never _ (sym e ∙ x ∙ q .as-begun ((running m) .1));
+        leave-accepts = λ m. let (t, r) = running m in (λ x y. never {C = ⊥} _ (sym e ∙ y ∙ as-begun r), λ x. rw (leave-done S T id t e r) (unfold away in refl, away-unloading S T id t));
+        leave-refuses = λ m x. never _ (sym e ∙ x ∙ as-begun ((running m) .1));
       }
       go (some bs) e = record {
-        committed-is = λ r. q .as-begun ((running r) .1);
+        committed-is = λ r. as-begun ((running r) .1);
         check-accepts = λ m. let (t, l) = isloading m in (λ x. same bs e (loaded l), λ x. check-done S T id t bs e l);
         check-refuses = λ m x. absurd (x (same bs e (loaded ((isloading m) .1))));
         leave-accepts = λ m.

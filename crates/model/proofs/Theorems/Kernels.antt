@@ -1,7 +1,7 @@
 -- What a command hands back, refused or accepted; reached kernels are sound, so that no command on one answers 10; and the iteration rule holds of them.
-use Rattle.model.proofs.Logic.{Bool, List, Option, [], _&&_, _∙_, _∷_, _≡_, _≤_, _⊎_, ap, arith, cond, eqb, false, inl, inr, none, not, refl, some, subst, sym, true, ℕ}
-use Rattle.model.specs.{Commands.Command, Commands.report, Commands.result, Commands.settle, Commands.step, Commands.tests, Iteration.IterationRule, Iteration.RuleAt, Iteration.begins, Iteration.committedOf, Iteration.iterationOf, Iteration.lastFrom, Iteration.phaseOf, Iteration.targetOf, Kernels.Commanded, Kernels.EveryCallAnswered, Kernels.asked, Kernels.commanded, Kernels.kernelFrom, Kernels.reached, Kernels.replied, Layouts.Layout, Layouts.layOut, Layouts.soundKernel, Layouts.tablesOf, Lifecycle.checkIteration, Lists.all, Observers.phase, Refusals.Reply, Refusals.accepted, Refusals.first, Refusals.number, Refusals.replyNumber, Resolution.Target, Resolution.committed, Resolution.target, Resolution.targetList, Sizes.Sizes, Soundness.sound, Tables.Tables, Tables.empty, declared.Binding.Binding, declared.Error.Error}
-use Rattle.model.proofs.{Laws.Booleans.clash, Laws.Refusals.Passed, Laws.Refusals.first-among, Laws.Refusals.of-passed, Laws.Refusals.report-accepts, Laws.Refusals.step-cases, Theorems.Commands.empty-sound, Theorems.Commands.run, Theorems.Commands.run-sound, Theorems.Commands.runFrom, Theorems.Commands.step-sound, Theorems.Iteration.RuleOn, Theorems.Iteration.rule, Theorems.IterationInvariant.empty-kept, Theorems.IterationInvariant.from-kept, Theorems.IterationInvariant.noted, Theorems.IterationInvariant.notedFrom, Theorems.Layouts.layout-sound, Theorems.Layouts.read-back}
+use Rattle.model.proofs.Logic.{Bool, List, Option, Option·map, [], _&&_, _∙_, _∷_, _≡_, _≤_, _⊎_, ap, arith, cond, eqb, false, inl, inr, map, none, not, refl, some, subst, sym, true, ℕ}
+use Rattle.model.specs.{Commands.Command, Commands.report, Commands.result, Commands.settle, Commands.step, Commands.tests, Iteration.IterationRule, Iteration.RuleAt, Iteration.begins, Iteration.committedOf, Iteration.iterationOf, Iteration.last, Iteration.lastFrom, Iteration.phaseOf, Iteration.targetOf, Kernels.Commanded, Kernels.EveryCallAnswered, Kernels.asked, Kernels.commanded, Kernels.emptyKernel, Kernels.kernelFrom, Kernels.reached, Kernels.replied, Layouts.Layout, Layouts.layOut, Layouts.soundKernel, Layouts.tablesOf, Lifecycle.begunLink, Lifecycle.checkIteration, Lists.all, Observers.phase, Records.bindingIn, Refusals.Reply, Refusals.accepted, Refusals.first, Refusals.number, Refusals.replyNumber, Resolution.Target, Resolution.committed, Resolution.target, Resolution.targetList, Sizes.Sizes, Soundness.sound, Tables.Tables, Tables.empty, declared.Binding.Binding, declared.Error.Error, declared.records.Link.Link, declared.records.Node.Node}
+use Rattle.model.proofs.{Laws.Booleans.clash, Laws.Committed.begun-bindings, Laws.Refusals.Passed, Laws.Refusals.first-among, Laws.Refusals.of-passed, Laws.Refusals.report-accepts, Laws.Refusals.step-cases, Theorems.Commands.empty-sound, Theorems.Commands.run, Theorems.Commands.run-sound, Theorems.Commands.runFrom, Theorems.Commands.step-sound, Theorems.Iteration.RuleOn, Theorems.Iteration.rule, Theorems.IterationInvariant.IterationInvariant, Theorems.IterationInvariant.begunLinks, Theorems.IterationInvariant.empty-kept, Theorems.IterationInvariant.from-kept, Theorems.IterationInvariant.noted, Theorems.IterationInvariant.noted-map, Theorems.IterationInvariant.notedFrom, Theorems.Layouts.layout-sound, Theorems.Layouts.read-back}
 
 -- what a sound kernel answers, and an unsound one
 pub asked-sound : {A : Type 0} (S : Sizes) (k : Layout) (u : A) (f : Tables → A) → soundKernel S k ≡ true → asked S k u f ≡ f (tablesOf k)
@@ -110,13 +110,16 @@ step-undamaged S T c = step-cases (λ o. o .reply ≡ Reply.refused Error.Damage
 pub reached-undamaged : (S : Sizes) (cs : List Command) (c : Command) → (commanded S (reached S cs) c) .reply ≡ Reply.refused Error.Damaged → ⊥
 reached-undamaged S cs c q = step-undamaged S (run S cs) c (rw (reached-is S cs, commanded-of S (run S cs) (run-sound S cs) c) at q)
 
-kernel-last : (S : Sizes) (T : Tables) (id : ℕ) (cs : List Command) (a : Option (List Binding)) → sound S T ≡ true → lastFrom S (layOut S T) id cs a ≡ notedFrom S T id cs a
+-- what was seen of the kernels handed to begin is what is seen of their tables
+pub kernel-last :
+    {A : Type 0} (S : Sizes) (on-kernels : Layout → A) (on-tables : Tables → A) → ((T : Tables) → sound S T ≡ true → on-kernels (layOut S T) ≡ on-tables T)
+    → (T : Tables) (id : ℕ) (cs : List Command) (a : A) → sound S T ≡ true → lastFrom S on-kernels (layOut S T) id cs a ≡ notedFrom S on-tables T id cs a
 unfolding lastFrom notedFrom noted
-kernel-last S T id [] a h = refl
-kernel-last S T id (c ∷ cs) a h =
-    ap (λ (o : Commanded). lastFrom S (o .kernel) id cs (cond (begins id c && accepted (o .reply)) (targetList (targetOf S (layOut S T) id)) a)) (commanded-of S T h c)
-    ∙ ap (λ (t : Target). lastFrom S (layOut S ((step S T c) .tables)) id cs (cond (begins id c && accepted ((step S T c) .reply)) (targetList t) a)) (asked-of S T h Target.nothing (λ U. target U id))
-    ∙ kernel-last S ((step S T c) .tables) id cs (cond (begins id c && accepted ((step S T c) .reply)) (targetList (target T id)) a) (step-sound S T c h)
+kernel-last S f g e T id [] a h = refl
+kernel-last {A} S f g e T id (c ∷ cs) a h =
+    ap (λ (o : Commanded). lastFrom S f (o .kernel) id cs (cond (begins id c && accepted (o .reply)) (f (layOut S T)) a)) (commanded-of S T h c)
+    ∙ ap (λ (x : A). lastFrom S f (layOut S ((step S T c) .tables)) id cs (cond (begins id c && accepted ((step S T c) .reply)) x a)) (e T h)
+    ∙ kernel-last S f g e ((step S T c) .tables) id cs (cond (begins id c && accepted ((step S T c) .reply)) (g T) a) (step-sound S T c h)
 
 -- the rule of sound tables is that of their kernel
 kernel-rule : (S : Sizes) (T : Tables) (id : ℕ) (a : Option (List Binding)) → sound S T ≡ true → RuleOn S T id a → RuleAt S (layOut S T) id a
@@ -129,9 +132,28 @@ kernel-rule S T id a h r =
     let after : phaseOf S (layOut S U) id ≡ phase U id = asked-of S U (step-sound S T (Command.leaveIfChanged id) h) none (λ T. phase T id) in
     rw (now, held, wanted, check, commanded-of S T h (Command.leaveIfChanged id), after) r
 
+-- what was noted at the last accepted begin of a component, in a list from the empty kernel: the links that it appended
+abbrev pub lastLinks : Sizes → List Command → ℕ → Option (List Link)
+lastLinks S cs id = notedFrom S (λ T. begunLinks T id) empty id cs none
+
+-- and what is read off them, if of each kernel it is what is seen of the kernel itself
+pub last-links :
+    {A : Type 0} (S : Sizes) (cs : List Command) (id : ℕ) (seen : Layout → Option A) (read : Option (List Link) → Option A) → read none ≡ none
+    → ((T : Tables) → sound S T ≡ true → seen (layOut S T) ≡ read (begunLinks T id)) → lastFrom S seen (emptyKernel S) id cs none ≡ read (lastLinks S cs id)
+last-links S cs id seen read n e =
+    kernel-last S seen (λ T. read (begunLinks T id)) e empty id cs none (empty-sound S)
+    ∙ sym (noted-map read S (λ T. begunLinks T id) empty id cs none ∙ ap (notedFrom S (λ T. read (begunLinks T id)) empty id cs) n)
+
+pub last-invariant : (S : Sizes) (cs : List Command) (id : ℕ) → IterationInvariant (run S cs) id (lastLinks S cs id)
+last-invariant S cs id = from-kept S empty id none cs (empty-sound S) (empty-kept id)
+
+begun-read : (ns : List Node) (id : ℕ) (o : Option (List Binding)) → o ≡ Option·map (map bindingIn) (Option·map (map (begunLink ns id)) o)
+begun-read ns id none = refl
+begun-read ns id (some bs) = ap some (sym (begun-bindings ns id bs))
+
 -- demand 3
 pub iteration-rule : IterationRule
 iteration-rule S cs id =
-    let a : Option (List Binding) = notedFrom S empty id cs none in
-    let q : RuleOn S (run S cs) id a = rule S (run S cs) (run-sound S cs) id a (from-kept S empty id none cs (empty-sound S) (empty-kept id)) in
-    rw (reached-is S cs, kernel-last S empty id cs none (empty-sound S)) (kernel-rule S (run S cs) id a (run-sound S cs) q)
+    let begun : last S cs id ≡ Option·map (map bindingIn) (lastLinks S cs id) =
+    last-links S cs id _ (Option·map (map bindingIn)) refl (λ T h. ap targetList (asked-of S T h Target.nothing (λ U. target U id)) ∙ begun-read (T .nodes) id (targetList (target T id))) in
+    rw (reached-is S cs, begun) (kernel-rule S (run S cs) id _ (run-sound S cs) (rule S (run S cs) (run-sound S cs) id (lastLinks S cs id) (last-invariant S cs id)))

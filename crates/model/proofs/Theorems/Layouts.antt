@@ -1,6 +1,6 @@
 -- A sound kernel is its tables laid out, and tables come back from their layout.
 use Rattle.model.proofs.Logic.{List, _∙_, _≡_, _≤_, ap, arith, drop, getD, le-leb, leb-true, length, length-take-le, refl, sym, take, true, ℕ}
-use Rattle.model.specs.{Layouts.Layout, Layouts.Sized, Layouts.layOut, Layouts.layoutTests, Layouts.soundKernel, Layouts.tablesOf, Lists.all, Lists.conj, Lists.padded, Records.blankDeclaration, Records.blankLink, Records.blankNode, Records.isBlankDeclaration, Records.isBlankLink, Records.isBlankNode, Sizes.Sizes, Soundness.eightPoints, Soundness.fits, Soundness.sound, Tables.Tables, Tables.nodeAt, declared.records.Node.Node}
+use Rattle.model.specs.{Layouts.Layout, Layouts.Sized, Layouts.layOut, Layouts.layoutTests, Layouts.soundKernel, Layouts.tablesOf, Lists.all, Lists.conj, Lists.padded, Records.blankDeclaration, Records.blankLink, Records.blankNode, Records.isBlankDeclaration, Records.isBlankLink, Records.isBlankNode, Sizes.Sizes, Soundness.everyPoint, Soundness.fits, Soundness.sound, Tables.Tables, Tables.nodeAt, declared.records.Node.Node}
 use Rattle.model.proofs.{Laws.Arrays.getD-padded, Laws.Arrays.rest-blank, Laws.Arrays.take-most, Laws.Arrays.take-padded, Laws.Arrays.whole-array, Laws.Blanks.blank-declaration, Laws.Blanks.blank-link, Laws.Blanks.blank-node, Laws.Booleans.Each, Laws.Booleans.and-i, Laws.Booleans.and-l, Laws.Booleans.and-r, Laws.Booleans.each, Laws.Booleans.of-each, Laws.Facts.Fits, Laws.Facts.fits-of, Laws.Facts.of-fits}
 
 -- what the tests of a layout say
@@ -11,7 +11,7 @@ pub record Laid (S : Sizes) (k : Layout) : Type 0 where
   pub blank-nodes : all isBlankNode (drop (k .nodeCount) (k .nodes)) ≡ true
   pub blank-declarations : all isBlankDeclaration (drop (k .declarationCount) (k .declarations)) ≡ true
   pub blank-links : all isBlankLink (drop (k .linkCount) (k .links)) ≡ true
-  pub points : eightPoints (tablesOf k) ≡ true
+  pub points : everyPoint (tablesOf k) ≡ true
 
 pub laid-of : (S : Sizes) (k : Layout) → soundKernel S k ≡ true → Laid S k
 unfolding soundKernel

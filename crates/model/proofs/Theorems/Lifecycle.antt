@@ -10,19 +10,19 @@ module _ (S : Sizes) (T : Tables) (id : ℕ) (k : Sound S T) where
   pub retiredFrom-sound : Passed (retireTests T id) → Sound S (retiredFrom T id)
   retiredFrom-sound p =
       let t : present (T .nodes) id ≡ true = not-f _ (p .0) in
-      sound-update S T id _ k (calm T id _ (k .safe) t refl t (λ i. i) (λ r. (r, k .safe .nodes id .restoring-unloading r))) (λ i. i) (λ a. clash _ t a)
+      sound-update S T id _ k (calm T id _ (k .safe) t refl t (λ i. i) (λ r. (r, k .safe .nodes id .restoring-unloading r))) (λ i. i) (λ a. clash _ t a) (λ l m v e. refl)
 
   pub left-sound : Passed (leaveTests T id) → Sound S (left T id)
   left-sound p =
       let t : present (T .nodes) id ≡ true = not-f _ (p .0) in
-      sound-update S T id _ k (calm T id _ (k .safe) t refl t (λ i. refl) (λ r. (r, refl))) (λ i. running-installed (node .phase) (not-f _ (p .1 .0))) (λ a. clash _ t a)
+      sound-update S T id _ k (calm T id _ (k .safe) t refl t (λ i. refl) (λ r. (r, refl))) (λ i. running-installed (node .phase) (not-f _ (p .1 .0))) (λ a. clash _ t a) (λ l m v e. refl)
 
   pub finished-sound : Passed (iterationTests T id) → Sound S (finished T id)
   finished-sound p =
       let t : present (T .nodes) id ≡ true = not-f _ (p .0) in
       let q : isRunning (node .phase) ≡ true = loading-running (node .phase) (not-f _ (p .1 .0)) in
       let may = calm T id _ (k .safe) t refl t (λ i. refl) (λ r. clash _ (k .safe .nodes id .restoring-unloading r) (running-stays (node .phase) q)) in
-      sound-update S T id _ k may (λ i. running-installed (node .phase) q) (λ a. clash _ t a)
+      sound-update S T id _ k may (λ i. running-installed (node .phase) q) (λ a. clash _ t a) (λ l m v e. refl)
 
   pub cleanupBegun-sound : Passed (beginCleanupTests T id) → Sound S (cleanupBegun T id)
   unfolding relies
@@ -39,7 +39,7 @@ module _ (S : Sizes) (T : Tables) (id : ℕ) (k : Sound S T) where
         children = λ j a e. t;
         consumes = λ l m v e. (t, i);
         provides = λ l m v e. clash _ (and-i (l .live) (eqb (providerIn l) id) v (eq-eqb _ _ e)) (none-in (relies id) m (p .1 .1 .0));
-      }) (λ j. i) (λ a. clash _ t a)
+      }) (λ j. i) (λ a. clash _ t a) (λ l m v e. refl)
 
   pub removedFrom-sound : Passed (removeTests T id) → Sound S (removedFrom T id)
   removedFrom-sound p =
@@ -55,4 +55,4 @@ module _ (S : Sizes) (T : Tables) (id : ℕ) (k : Sound S T) where
         children = λ j a e. absurd (no-child T id j (p .1 .1 .0) a e);
         consumes = λ l m v e. clash _ (rw e at (k .safe .live l m v .consumer-installed)) i;
         provides = λ l m v e. clash _ (rw e at (k .safe .live l m v .provider-installed)) i;
-      }) (λ j. j) (λ a. parent-smaller (T .nodes) id _ (k .safe .nodes id .parent-ok t))
+      }) (λ j. j) (λ a. parent-smaller (T .nodes) id _ (k .safe .nodes id .parent-ok t)) (λ l m v e. refl)

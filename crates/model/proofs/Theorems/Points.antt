@@ -1,6 +1,6 @@
--- The test of soundness is the rules' eight points, both ways; and that of a kernel its counts, its blanks and these.
-use Rattle.model.proofs.Logic.{Bool, List, List·Memᴰ, [], _&&_, _<_, _↔_, _∙_, _∷_, _≡_, _⊎_, arith, decLt, drop, false, getD, inl, inr, length, lt-ltb, ltb, ltb-true, not, refl, suc, sym, true, zero, ℕ}
-use Rattle.model.specs.{Layouts.Layout, Layouts.soundKernel, Layouts.tablesOf, Lifecycle.phaseAt, Lists.all, Points.At, Points.BlankPast, Points.Installed, Points.Issued, Points.KernelPoints, Points.Points, Points.Present, Points.Restoring, Points.Within, Records.bindingIn, Records.blankDeclaration, Records.blankLink, Records.blankNode, Records.consumerIn, Records.isBlankDeclaration, Records.isBlankLink, Records.isBlankNode, Records.isInactive, Records.parentIn, Records.providerIn, Sizes.Sizes, Soundness.apart, Soundness.eightPoints, Soundness.fits, Soundness.parentOk, Soundness.safetyWf, Soundness.smaller, Soundness.sound, Soundness.wf, Tables.Tables, Tables.nodeAt, Tables.notInactive, Tables.present, declared.Parent.Parent, declared.Phase.Phase, declared.records.Link.Link, declared.records.Node.Node}
+-- The test of soundness is the rules' nine points, both ways; and that of a kernel its counts, its blanks and these.
+use Rattle.model.proofs.Logic.{Bool, List, List·Memᴰ, [], _&&_, _<_, _↔_, _∙_, _∷_, _≡_, _⊎_, ap, arith, decLt, drop, false, getD, inl, inr, length, lt-ltb, ltb, ltb-true, not, refl, suc, sym, true, zero, ℕ}
+use Rattle.model.specs.{Layouts.Layout, Layouts.soundKernel, Layouts.tablesOf, Lifecycle.phaseAt, Lists.all, Points.At, Points.BlankPast, Points.Installed, Points.Issued, Points.KernelPoints, Points.Points, Points.Present, Points.Restoring, Points.Within, Records.bindingIn, Records.blankDeclaration, Records.blankLink, Records.blankNode, Records.consumerIn, Records.isBlankDeclaration, Records.isBlankLink, Records.isBlankNode, Records.isInactive, Records.parentIn, Records.providerIn, Sizes.Sizes, Soundness.apart, Soundness.everyPoint, Soundness.fits, Soundness.parentOk, Soundness.safetyWf, Soundness.smaller, Soundness.sound, Soundness.wf, Tables.Tables, Tables.nodeAt, Tables.notInactive, Tables.present, declared.Parent.Parent, declared.Phase.Phase, declared.records.Link.Link, declared.records.Node.Node}
 use Rattle.model.proofs.{Laws.Blanks.blank-declaration, Laws.Blanks.blank-link, Laws.Blanks.blank-node, Laws.Booleans.and-i, Laws.Booleans.and-l, Laws.Booleans.and-r, Laws.Booleans.cases, Laws.Booleans.clash, Laws.Booleans.not-t, Laws.Facts.AbsentOk, Laws.Facts.Covered, Laws.Facts.Fits, Laws.Facts.LiveOk, Laws.Facts.NodeOk, Laws.Facts.Safe, Laws.Facts.Stored, Laws.Facts.blank-ok, Laws.Facts.covered-of, Laws.Facts.fits-of, Laws.Facts.of-covered, Laws.Facts.of-fits, Laws.Facts.of-safe, Laws.Facts.of-stored, Laws.Facts.safe-of, Laws.Facts.stored-of, Laws.Lists.at-in, Laws.Lists.at-onward, Laws.Lists.getD-any, Laws.Lists.in-at, Laws.Lists.onward-at, Laws.Nodes.past-blank, Laws.Nodes.present-lt, Laws.Order.apart-of, Laws.Order.of-apart, Laws.Phases.inactive-is, Laws.Phases.unloading-is, Theorems.Layouts.Laid, Theorems.Layouts.laid-of, Theorems.Layouts.of-laid}
 
 -- ---- nodes by place and by identity
@@ -71,6 +71,7 @@ module _ (T : Tables) (k : Safe T) (c : Covered T) (s : Stored (T .nodes) (T .li
     covered = λ i d a p x. let o = c d (at-in _ i d a) p (to-present T _ (x .0, x .1, x .2)) (to-installed T _ x) in (o .link, in-at (o .among), o .is-live, o .of-consumer, o .of-port);
     dead = λ i l a v. s .dead l (at-in _ i l a) v;
     absent-parents = λ i p n a h e. absent-parent i p (parentIn n) ((rw (at-node (T .nodes) i n a) at (s .absent i)) h) e;
+    episodes = λ i l n a v b. s .episodes l (at-in _ i l a) v ∙ ap (λ (x : Node). x .generation) (at-node (T .nodes) (providerIn l) n b);
   }
 
 -- ---- to the test
@@ -131,7 +132,11 @@ module _ (T : Tables) (k : Points T) where
   smaller-of i (Parent.Of p) f = lt-ltb _ _ (f p refl)
 
   stored : Stored (T .nodes) (T .links)
-  stored = record { dead = λ l m v. let (i, a) = in-at m in k .dead i l a v; absent = λ i. absent i (decLt i (length (T .nodes))) }
+  stored = record {
+    dead = λ l m v. let (i, a) = in-at m in k .dead i l a v;
+    absent = λ i. absent i (decLt i (length (T .nodes)));
+    episodes = λ l m v. let (i, a) = in-at m in k .episodes i l _ a v (node-at (T .nodes) (providerIn l) (present-lt _ _ (live-facts l m v .provider-present)));
+  }
     where
       absent : (i : ℕ) → Dec (i < length (T .nodes)) → AbsentOk i (nodeAt (T .nodes) i)
       absent i (yes l) = λ h. smaller-of i _ (λ p e. k .absent-parents i p _ (node-at (T .nodes) i l) h e)
@@ -139,11 +144,11 @@ module _ (T : Tables) (k : Points T) where
 
 -- ---- both ways
 
-pub eight-points : (T : Tables) → (eightPoints T ≡ true) ↔ Points T
-unfolding eightPoints wf
-eight-points T = (to, λ k. and-i (wf T) _ (and-i (safetyWf T) _ (of-safe T (safe T k)) (of-covered T (covers T k))) (of-stored T (stored T k)))
+pub every-point : (T : Tables) → (everyPoint T ≡ true) ↔ Points T
+unfolding everyPoint wf
+every-point T = (to, λ k. and-i (wf T) _ (and-i (safetyWf T) _ (of-safe T (safe T k)) (of-covered T (covers T k))) (of-stored T (stored T k)))
   where
-    to : eightPoints T ≡ true → Points T
+    to : everyPoint T ≡ true → Points T
     to h =
         let w : wf T ≡ true = and-l (wf T) _ h in
         points T (safe-of T (and-l (safetyWf T) _ w)) (covered-of T (and-r (safetyWf T) _ w)) (stored-of T (and-r (wf T) _ h))
@@ -153,10 +158,10 @@ unfolding sound
 sound-points S T = (to, of)
   where
     to : sound S T ≡ true → Within S T × Points T
-    to h = let f : Fits S T = fits-of S T (and-l (fits S T) _ h) in ((f .nodes, f .declarations, f .links), eight-points T .0 (and-r (fits S T) _ h))
+    to h = let f : Fits S T = fits-of S T (and-l (fits S T) _ h) in ((f .nodes, f .declarations, f .links), every-point T .0 (and-r (fits S T) _ h))
 
     of : Within S T × Points T → sound S T ≡ true
-    of (w, k) = and-i (fits S T) _ (of-fits S T (record { nodes = w .0; declarations = w .1; links = w .2 })) (eight-points T .1 k)
+    of (w, k) = and-i (fits S T) _ (of-fits S T (record { nodes = w .0; declarations = w .1; links = w .2 })) (every-point T .1 k)
 
 -- what points 7 and 8 add: nothing is stored that was not issued
 pub stored-issued : (T : Tables) → Points T → Issued T
@@ -199,7 +204,7 @@ kernel-points S k = (to, of)
       blank-nodes = past-blanks isBlankNode blankNode blank-node _ _ (l .blank-nodes);
       blank-declarations = past-blanks isBlankDeclaration blankDeclaration blank-declaration _ _ (l .blank-declarations);
       blank-links = past-blanks isBlankLink blankLink blank-link _ _ (l .blank-links);
-      points = eight-points (tablesOf k) .0 (l .points);
+      points = every-point (tablesOf k) .0 (l .points);
     }
 
     of : KernelPoints S k → soundKernel S k ≡ true
@@ -210,7 +215,7 @@ kernel-points S k = (to, of)
       blank-nodes = blanks-past isBlankNode blankNode refl _ _ (p .blank-nodes);
       blank-declarations = blanks-past isBlankDeclaration blankDeclaration refl _ _ (p .blank-declarations);
       blank-links = blanks-past isBlankLink blankLink refl _ _ (p .blank-links);
-      points = eight-points (tablesOf k) .1 (p .points);
+      points = every-point (tablesOf k) .1 (p .points);
     })
 
 -- and what a sound kernel's records below the counts store was issued

@@ -1,7 +1,7 @@
--- update_node keeps soundness without point 6; points 7 and 8 of a new node that has point 8.
+-- update_node keeps soundness without point 6; points 7 to 9 of a new node of which it may assume what `assumed` says.
 use Rattle.model.proofs.Logic.{Bool, List, List·Memᴰ, List·Memᴰ·head, List·Memᴰ·tail, Option, [], _&&_, _||_, _∙_, _∷_, _≡_, _⊎_, ap, eq-eqb, eqb, eqb-true, false, inl, inr, ne-eqb, none, not, refl, some, true, ℕ}
-use Rattle.model.specs.{Commands.settle, Commands.updateNode, Lifecycle.relies, Lifecycle.retiredTests, Lifecycle.unloadingTests, Lists.any, Records.absentNode, Records.consistencyTests, Records.consumerIn, Records.hasParent, Records.isChildOf, Records.isConsistent, Records.isInactive, Records.isUnloading, Records.parentIn, Records.providerIn, Records.restoringNode, Refusals.Reply, Refusals.first, Sizes.Sizes, Soundness.absentOk, Soundness.fits, Soundness.safetyWf, Soundness.storedWf, Tables.Tables, Tables.nodeAt, Tables.notInactive, Tables.present, Tables.withNode, UpdateNode.blocks, UpdateNode.idle, UpdateNode.updateTests, declared.Error.Error, declared.Parent.Parent, declared.records.Link.Link, declared.records.Node.Node}
-use Rattle.model.proofs.{Laws.Booleans.Each, Laws.Booleans.and-i, Laws.Booleans.and-l, Laws.Booleans.and-r, Laws.Booleans.cases, Laws.Booleans.clash, Laws.Booleans.each, Laws.Booleans.f-not, Laws.Booleans.imp-e, Laws.Booleans.imp-i, Laws.Booleans.not-f, Laws.Booleans.not-t, Laws.Booleans.of-each, Laws.Booleans.or-f-l, Laws.Booleans.or-f-r, Laws.Facts.AbsentOk, Laws.Facts.Safe, Laws.Facts.fits-of, Laws.Facts.of-fits, Laws.Facts.of-safe, Laws.Facts.of-stored, Laws.Facts.safe-of, Laws.Facts.stored-of, Laws.Lists.none-in, Laws.Nodes.node-in, Laws.Nodes.present-lt, Laws.Phases.unloading-installed, Laws.Refusals.Passed, Laws.Refusals.of-passed, Laws.Refusals.passed, Laws.Refusals.skip, Laws.Update.Update, Laws.Update.fits-update, Laws.Update.safe-update, Laws.Update.stored-update}
+use Rattle.model.specs.{Commands.settle, Commands.updateNode, Lifecycle.relies, Lifecycle.retiredTests, Lifecycle.unloadingTests, Lists.any, Records.absentNode, Records.consistencyTests, Records.consumerIn, Records.hasParent, Records.isChildOf, Records.isConsistent, Records.isInactive, Records.isUnloading, Records.parentIn, Records.providerIn, Records.restoringNode, Refusals.Reply, Refusals.first, Sizes.Sizes, Soundness.absentOk, Soundness.fits, Soundness.safetyWf, Soundness.storedWf, Tables.Tables, Tables.nodeAt, Tables.notInactive, Tables.present, Tables.withNode, UpdateNode.assumed, UpdateNode.blocks, UpdateNode.idle, UpdateNode.updateTests, declared.Error.Error, declared.Parent.Parent, declared.records.Link.Link, declared.records.Node.Node}
+use Rattle.model.proofs.{Laws.Booleans.Each, Laws.Booleans.and-i, Laws.Booleans.and-l, Laws.Booleans.and-r, Laws.Booleans.cases, Laws.Booleans.clash, Laws.Booleans.each, Laws.Booleans.f-not, Laws.Booleans.imp-e, Laws.Booleans.imp-i, Laws.Booleans.not-f, Laws.Booleans.not-t, Laws.Booleans.of-each, Laws.Booleans.or-f-l, Laws.Booleans.or-f-r, Laws.Facts.AbsentOk, Laws.Facts.Safe, Laws.Facts.fits-of, Laws.Facts.of-fits, Laws.Facts.of-safe, Laws.Facts.of-stored, Laws.Facts.safe-of, Laws.Facts.stored-of, Laws.Lists.in-any, Laws.Lists.none-in, Laws.Nodes.node-in, Laws.Nodes.present-lt, Laws.Phases.unloading-installed, Laws.Refusals.Passed, Laws.Refusals.of-passed, Laws.Refusals.passed, Laws.Refusals.skip, Laws.Update.KeepsEpisode, Laws.Update.Update, Laws.Update.fits-update, Laws.Update.safe-update, Laws.Update.stored-update}
 
 -- a live link that does not block the new node's consumer, or its provider
 module _ (id : ℕ) (n : Node) (l : Link) (v : l .live ≡ true) (h : blocks id n l ≡ false) where
@@ -52,18 +52,21 @@ updateNode-safe T id n h = go (first (updateTests T id n)) refl
     go none e = of-safe (withNode T id n) (safe-update T id n (safe-of T h) (update-passed T id n (passed _ e)))
     go (some x) e = h
 
--- and the two points of what is stored, of a new node whose parent, if it is absent, is smaller
-pub updateNode-stored : (T : Tables) (id : ℕ) (n : Node) → absentOk id n ≡ true → storedWf T ≡ true → storedWf ((updateNode T id n) .tables) ≡ true
-unfolding updateNode settle absentOk
+-- and the three points of what is stored
+pub updateNode-stored : (T : Tables) (id : ℕ) (n : Node) → assumed T id n ≡ true → storedWf T ≡ true → storedWf ((updateNode T id n) .tables) ≡ true
+unfolding updateNode settle absentOk relies
 updateNode-stored T id n a h = go (first (updateTests T id n)) refl
   where
     smaller-parent : AbsentOk id n
-    smaller-parent v = imp-e (not (n .present)) _ a (f-not _ v)
+    smaller-parent v = imp-e (not (n .present)) _ (and-l (absentOk id n) _ a) (f-not _ v)
+
+    keeps : KeepsEpisode (T .nodes) (T .links) id n
+    keeps l m v e = eqb-true _ _ (imp-e (any (relies id) (T .links)) _ (and-r (absentOk id n) _ a) (in-any (relies id) m (rw (v, eq-eqb _ _ e))))
 
     go : (o : Option Error) → first (updateTests T id n) ≡ o → storedWf ((settle o T (record { tables = withNode T id n; reply = Reply.done })) .tables) ≡ true
     go none e =
         let t : present (T .nodes) id ≡ true = not-f _ ((passed (updateTests T id n) e) .0) in
-        of-stored (withNode T id n) (stored-update (T .nodes) (T .links) id n (present-lt _ _ t) (stored-of T h) smaller-parent)
+        of-stored (withNode T id n) (stored-update (T .nodes) (T .links) id n (present-lt _ _ t) (stored-of T h) smaller-parent keeps)
     go (some x) e = h
 
 pub updateNode-fits : (S : Sizes) (T : Tables) (id : ℕ) (n : Node) → fits S T ≡ true → fits S ((updateNode T id n) .tables) ≡ true

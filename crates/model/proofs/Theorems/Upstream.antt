@@ -11,3 +11,4 @@ pub mod Kernels
 pub mod Identities
 pub mod CheckInsert
 pub mod Updated
+pub mod Recorded

@@ -16,7 +16,7 @@ module _ (s : tie.Start) where
 
 -- the nodes scanned
 abbrev counted : tie.After-nodes-ok → tie.Else1
-counted v = v .before .before .before .before
+counted v = v .before .before .before .before .before
 
 -- the declarations written into columns, after those of the nodes
 module _ (w : tie.After-declaration-columns) where
@@ -37,12 +37,20 @@ module _ (w : tie.After-declaration-columns) where
       let cols = w .declaration-columns .last .1 .1 in
       take (s .args .d) (declarationsOf DECLARATIONS (cols .0) (cols .1 .0) (cols .1 .1 .0) (cols .1 .1 .1 .0))
 
-  scanned : Scanned sizes (k s) present (v .nodes-ok .last .1 .1 .1 .0) (v .nodes-ok .last .1 .1 .1 .1 .0) declarations
+  scanned : let cols = v .nodes-ok .last .1 .1 .1 in Scanned sizes (k s) present (cols .0) (cols .1 .0) (cols .1 .1 .0) declarations
   scanned =
       let e = v .nodes-ok .ensures in
       let t = not-false _ (passed .if2 .left) in
       let q = e .1 t in
-      record { counts = not-false _ (counted v .if1 .left); nodes = sym (e .0) ∙ t; present = q .0; installed = q .1; serving = q .2; declarations = w .declaration-columns .ensures .0 }
+      record {
+        counts = not-false _ (counted v .if1 .left);
+        nodes = sym (e .0) ∙ t;
+        present = q .0;
+        installed = q .1;
+        serving = q .2;
+        generations = q .3;
+        declarations = w .declaration-columns .ensures .0;
+      }
 
 -- and scanned
 module _ (u : tie.After-one-owner) where
@@ -57,7 +65,7 @@ module _ (u : tie.After-one-owner) where
 
 -- past the declarations, the links scanned
 abbrev sole : tie.After-links-ok → tie.Else3
-sole l = let lent = l .before .before .before in lent .before .before .before .before .before
+sole l = let lent = l .before .before .before .before in lent .before .before .before .before .before
 
 returns-2 : tie.Need-returns-2
 returns-2 c = sym (nodes-fail sizes (k (counted (c .before) .before)) (sym (c .before .nodes-ok .ensures .0) ∙ not-true _ (c .if2 .taken)))

@@ -1,7 +1,7 @@
 -- begin: when it is accepted, and that the component is then coherent, with what target gave committed.
 use Rattle.model.proofs.Logic.{List, List·Memᴰ, List·Memᴰ·append-cases, Memᴰ·append-right, _+_, _↔_, _∙_, _≡_, _≤_, _⊎_, ap, eqb-false, false, inl, inr, le-ltb, length, ltb-false, map, ne-eqb, not, refl, some, subst, sym, true, ℕ}
-use Rattle.model.specs.{Commands.Command, Commands.step, Lifecycle.beginTests, Lifecycle.begunNode, Lifecycle.begunWith, Lifecycle.bindings, Lifecycle.phaseAt, Records.bindingIn, Records.consumerIn, Records.isInactive, Records.isLoading, Records.liveLink, Refusals.accepted, Resolution.Provides, Resolution.committed, Resolution.target, Resolution.targetList, Sizes.Sizes, Sizes.lastGeneration, Soundness.sound, Tables.Tables, Tables.nodeAt, Tables.notInactive, Tables.present, declared.Binding.Binding, declared.Port.Port, declared.records.Link.Link, declared.records.Node.Node}
-use Rattle.model.proofs.{Laws.Booleans.clash, Laws.Booleans.not-f, Laws.Committed.committed-append, Laws.Committed.committed-idle, Laws.Committed.fresh-mine, Laws.Facts.facts, Laws.Lists.in-map, Laws.Lists.is-some, Laws.Lists.map-in, Laws.Nodes.present-lt, Laws.Refusals.Passed, Theorems.Commands.step-sound, Theorems.Points.at-node, Theorems.Points.node-at, Theorems.Upstream.Frames.declarations-kept, Theorems.Upstream.Frames.others-kept, Theorems.Upstream.Frames.subject-after, Theorems.Upstream.Observed.Available, Theorems.Upstream.Observed.BindingIsTarget, Theorems.Upstream.Observed.Coherent, Theorems.Upstream.Observed.CommittedFrom, Theorems.Upstream.Observed.CompleteTarget, Theorems.Upstream.Observed.coherent-target, Theorems.Upstream.Observed.complete-target, Theorems.Upstream.Observed.target-available, Theorems.Upstream.Replies.accepted-step, Theorems.Upstream.Replies.accepts}
+use Rattle.model.specs.{Commands.Command, Commands.step, Lifecycle.beginTests, Lifecycle.begunLink, Lifecycle.begunNode, Lifecycle.begunWith, Lifecycle.bindings, Lifecycle.phaseAt, Records.bindingIn, Records.consumerIn, Records.isInactive, Records.isLoading, Refusals.accepted, Resolution.Provides, Resolution.committed, Resolution.target, Resolution.targetList, Sizes.Sizes, Sizes.lastGeneration, Soundness.sound, Tables.Tables, Tables.nodeAt, Tables.notInactive, Tables.present, declared.Binding.Binding, declared.Port.Port, declared.records.Link.Link, declared.records.Node.Node}
+use Rattle.model.proofs.{Laws.Booleans.clash, Laws.Booleans.not-f, Laws.Committed.committed-begun, Laws.Facts.facts, Laws.Lists.in-map, Laws.Lists.is-some, Laws.Lists.map-in, Laws.Nodes.present-lt, Laws.Refusals.Passed, Theorems.Commands.step-sound, Theorems.Points.at-node, Theorems.Points.node-at, Theorems.Upstream.Frames.declarations-kept, Theorems.Upstream.Frames.others-kept, Theorems.Upstream.Frames.subject-after, Theorems.Upstream.Observed.Available, Theorems.Upstream.Observed.BindingIsTarget, Theorems.Upstream.Observed.Coherent, Theorems.Upstream.Observed.CommittedFrom, Theorems.Upstream.Observed.CompleteTarget, Theorems.Upstream.Observed.coherent-target, Theorems.Upstream.Observed.complete-target, Theorems.Upstream.Observed.target-available, Theorems.Upstream.Replies.accepted-step, Theorems.Upstream.Replies.accepts}
 
 pub record BeginEnabled (S : Sizes) (T : Tables) (id : ℕ) : Type 0 where
   pub inactive : isInactive (phaseAt T id) ≡ true
@@ -32,17 +32,19 @@ module _ (S : Sizes) (T : Tables) (id : ℕ) (s : sound S T ≡ true) where
       old :
           (bs : List Binding) → CompleteTarget T id bs → notInactive (T .nodes) id ≡ false
           → (l : Link) → l .live ≡ true → consumerIn l ≡ id
-          → List·Memᴰ l (T .links) ⊎ List·Memᴰ l (map (liveLink id) bs)
+          → List·Memᴰ l (T .links) ⊎ List·Memᴰ l (map (begunLink (T .nodes) id) bs)
           → BindingIsTarget T id (bindingIn l)
       old bs c i l v x (inl m) = clash _ (rw x at (facts S T s .safe .live l m v .consumer-installed)) i
-      old bs c i l v x (inr m) = let (b, n, q) = in-map (liveLink id) bs m in subst (λ (z : Link). BindingIsTarget T id (bindingIn z)) (sym q) (c .targets b n)
+      old bs c i l v x (inr m) = let (b, n, q) = in-map (begunLink (T .nodes) id) bs m in subst (λ (z : Link). BindingIsTarget T id (bindingIn z)) (sym q) (c .targets b n)
 
       go : (bs : List Binding) → CompleteTarget T id bs → notInactive (T .nodes) id ≡ false → CommittedFrom T (begunWith T id bs) id
       go bs c i = record {
         there = c .there;
         kept = c .kept;
         targets = λ l m v x. old bs c i l v x (List·Memᴰ·append-cases (T .links) m);
-        covers = λ p m. let (b, n, x) = c .covers p m in record { link = liveLink id b; among = Memᴰ·append-right (T .links) (map-in (liveLink id) n); is-live = refl; of-consumer = refl; of-port = sym x };
+        covers = λ p m.
+            let (b, n, x) = c .covers p m in
+            record { link = begunLink (T .nodes) id b; among = Memᴰ·append-right (T .links) (map-in (begunLink (T .nodes) id) n); is-live = refl; of-consumer = refl; of-port = sym x };
       }
 
   -- more: what is committed after is the target before, as a list
@@ -51,7 +53,7 @@ module _ (S : Sizes) (T : Tables) (id : ℕ) (s : sound S T ≡ true) where
       let p : Passed (beginTests S T id) = accepts S T beginning .0 h in
       let (bs, e) = is-some (targetList (target T id)) (p .1 .1 .1 .1 .0) in
       let i : notInactive (T .nodes) id ≡ false = rw (not-f (isInactive (phaseAt T id)) (p .1 .0)) in
-      rw (accepted-step S T beginning p, e) (ap some (sym (committed-append (T .links) (map (liveLink id) bs) id ∙ rw (committed-idle T id (facts S T s .safe) i) (fresh-mine bs id))))
+      rw (accepted-step S T beginning p, e) (ap some (sym (committed-begun T bs id (facts S T s .safe) i)))
 
   abbrev U : Tables
   U = (step S T beginning) .tables

@@ -5,8 +5,9 @@ use Rattle.records.proofs.stored.either_link.Tie as tie
 
 returns : tie.Need-returns
 returns c =
-    let m = c .before .before .before .before .before in
-    let a = m .before .before .before .before .before .args in
+    let m = c .before .before .before .before in
+    let n = m .before .before .before .before in
+    let a = n .before .before .before .before .args in
     either-link (a .a) (a .b)
 
 pub either-link-spec : {M : Type 1} → statement M

@@ -1,4 +1,4 @@
--- `soundness::nodes::nodes_ok` meets its contract. What is left of the nodes answers as the whole does; each column holds its flag of the nodes below the place reached.
+-- `soundness::nodes::nodes_ok` meets its contract. What is left of the nodes answers as the whole does; each column holds what it tells of the nodes below the place reached.
 use Rattle.model.proofs.Logic.{Bool, _&&_, _-_, _∙_, _≡_, _≤_, ap, arith, drop, false, getD, needs, not-false, not-true, refl, sym, take, true, ℕ, ⊎-elim}
 use Rattle.model.specs.{Lists.all, Lists.allAt, Records.blankNode, Records.isBlankNode, Records.isConsistent, Records.isInstalled, Records.isServing, declared.records.Node.Node}
 use Rattle.model.proofs.{Laws.Arrays.whole-array, Laws.Blanks.blank-node, Laws.Booleans.clash}
@@ -17,23 +17,24 @@ fails : {A : Type 0} {p : Bool} (q : Bool) → false ≡ p → (false ≡ p && q
 fails q h = refused (rw (← h))
 
 abbrev Inv-loop : tie.InvT-loop
-Inv-loop count present₀ installed₀ serving₀ nodes end i₀ present installed serving i =
+Inv-loop count present₀ installed₀ serving₀ generation₀ nodes end i₀ present installed serving generation i =
     let ok = nodePasses (take count nodes) in
     (i ≤ end)
     × TestingAt ok nodes end i (allAt ok 0 (take count nodes))
     × Begun (λ (n : Node). n .present) false IDENTITIES nodes i present
     × Begun isInstalled false IDENTITIES nodes i installed
     × Begun isServing false IDENTITIES nodes i serving
+    × Begun (λ (n : Node). n .generation) 0 IDENTITIES nodes i generation
 
 abbrev μ-loop : tie.MeasureT-loop
-μ-loop count present₀ installed₀ serving₀ nodes end i₀ present installed serving i = end - i
+μ-loop count present₀ installed₀ serving₀ generation₀ nodes end i₀ present installed serving generation i = end - i
 
 abbrev Inv-loop2 : tie.InvT-loop2
-Inv-loop2 count present installed serving nodes end i₀ i =
+Inv-loop2 count present installed serving generation nodes end i₀ i =
     (true ≡ allAt (nodePasses (take count nodes)) 0 (take count nodes)) × Joining isBlankNode blankNode IDENTITIES nodes i (all isBlankNode (drop count nodes))
 
 abbrev μ-loop2 : tie.MeasureT-loop2
-μ-loop2 count present installed serving nodes end i₀ i = IDENTITIES - i
+μ-loop2 count present installed serving generation nodes end i₀ i = IDENTITIES - i
 
 -- the node is consistent, its parent read
 module _ (r : tie.After-parent-in Inv-loop μ-loop Inv-loop2 μ-loop2) where
@@ -91,6 +92,7 @@ loop-again c =
       begun-next (h .2) (omega arith) x (omega arith) refl,
       begun-next (h .3) (omega arith) x (omega arith) (c .before .is-installed .ensures),
       begun-next (h .4) (omega arith) x (omega arith) (c .is-serving .ensures),
+      begun-next (h .5) (omega arith) x (omega arith) refl,
     )
 
 -- the nodes below the count passed
@@ -118,15 +120,22 @@ returns-5 c =
     let past = drop-most (a .count) IDENTITIES _ (a .t1) (omega arith) (m o .at-most .ensures) in
     let rest = ap (λ (j : ℕ). all isBlankNode (drop j (a .t1))) (at-end o) ∙ ap (all isBlankNode) past ∙ sym blank in
     let whole = whole-array isBlankNode blankNode blank-node IDENTITIES (k .i) (a .t1) (omega arith) (omega arith) rest in
-    let x = blankNode in
-    (rw (← (c .before .loop2 .inv .0)) blank, λ _. (begun-whole (k .inv .2) (omega arith) x refl whole, begun-whole (k .inv .3) (omega arith) x refl whole, begun-whole (k .inv .4) (omega arith) x refl whole))
+    let x = blankNode in (
+      rw (← (c .before .loop2 .inv .0)) blank,
+      λ _. (
+        begun-whole (k .inv .2) (omega arith) x refl whole,
+        begun-whole (k .inv .3) (omega arith) x refl whole,
+        begun-whole (k .inv .4) (omega arith) x refl whole,
+        begun-whole (k .inv .5) (omega arith) x refl whole,
+      ),
+    )
 
 pub nodes-ok-spec : {M : Type 1} → statement M
 nodes-ok-spec = tie.close (tie.spec Inv-loop μ-loop
     Inv-loop2
     μ-loop2
     (λ c κs. search needs)  -- at-most-requires
-    (λ c. let p = c .before .pre in (omega arith, testAt-start (omega arith) (c .at-most .ensures), begun-start (p .0), begun-start (p .1), begun-start (p .2)))  -- loop-holds
+    (λ c. let p = c .before .pre in (omega arith, testAt-start (omega arith) (c .at-most .ensures), begun-start (p .0), begun-start (p .1), begun-start (p .2), begun-start (p .3)))  -- loop-holds
     (λ c. omega arith) (λ c. omega arith) (λ c κs. search needs)  -- mul-node, array-copy-out-node, is-consistent-requires
     returns
     (λ c κs. search needs) (λ c. search needs)  -- parent-in-requires, enum-known-parent
@@ -134,7 +143,8 @@ nodes-ok-spec = tie.close (tie.spec Inv-loop μ-loop
     (λ c. omega arith) (λ c. omega arith)  -- mul-above, array-copy-out-above
     returns-3
     (λ c. search needs) (λ c. omega arith) (λ c κs. search needs) (λ c. omega arith)  -- enum-told, element-write-present, is-installed-requires, element-write-installed
-    (λ c κs. search needs) (λ c. omega arith) (λ c. omega arith) (λ c. omega arith)  -- is-serving-requires, element-write-serving, add-i, loop-less
+    (λ c κs. search needs) (λ c. omega arith) (λ c. omega arith) (λ c. omega arith)  -- is-serving-requires, element-write-serving, mul-generation, element-write-generation
+    (λ c. omega arith) (λ c. omega arith)  -- add-i, loop-less
     loop-again
     (λ c. (testAt-end (c .before .loop .inv .1) (c .loop-test .left), join-start (omega arith) (m c .at-most .ensures) (at-end c) refl))  -- loop2-holds
     (λ c. omega arith) (λ c. omega arith) (λ c κs. search needs)  -- mul-node-2, array-copy-out-node-2, is-blank-node-requires

@@ -1,9 +1,9 @@
 -- `soundness::points::link_ok` meets its contract.
-use Rattle.model.proofs.Logic.{Bool, List, _&&_, _<_, _∙_, _≡_, ap, false, getD, length-set, ltb, ltb-true, needs, not, not-false, not-true, refl, set, sym, take, true, ℕ}
+use Rattle.model.proofs.Logic.{Bool, List, _&&_, _<_, _∙_, _≡_, ap, arith, eqb, false, getD, length-set, ltb, ltb-true, needs, not, not-false, not-true, refl, set, sym, take, true, ℕ}
 use Rattle.model.specs.{Records.consumerIn, Records.portIn, Records.providerIn, Soundness.declares, declared.records.Declaration.Declaration, declared.records.Link.Link}
 use Rattle.model.proofs.{Laws.Booleans.and-l, Laws.Booleans.and-r, Laws.Booleans.clash}
 use Rattle.loops.proofs.{Laws.Marking.dead-ends, Laws.Marking.dead-marked, Laws.Marking.dead-meets, Laws.Marking.ends-fail, Laws.Marking.ends-pass, Laws.Marking.live-marked, Laws.Marking.live-meets}
-use Rattle.loops.specs.{Columns.declarationAt, Columns.declarationsOf, Columns.flag}
+use Rattle.loops.specs.{Columns.declarationAt, Columns.declarationsOf, Columns.flag, Columns.number}
 use Rattle.soundness.proofs.{points.link_ok.Statement.statement}
 use Rattle.soundness.proofs.points.link_ok.Tie as tie
 use Rattle.sizes.specs.{Sizes.DECLARATIONS, Sizes.IDENTITIES}
@@ -21,6 +21,9 @@ module _ (s : tie.Start) where
 
   abbrev serves : ℕ → Bool
   serves = flag IDENTITIES (s .args .serving .now)
+
+  abbrev generation : ℕ → ℕ
+  generation = number (s .args .generation .now)
 
 -- the ends read
 module _ (r : tie.After-provider-in) where
@@ -67,6 +70,10 @@ module _ (e : tie.Else2) where
   provider-below : read (e .before) .provider-in .result < IDENTITIES
   provider-below = rw (provider-is (read (e .before))) (ltb-true _ IDENTITIES (and-l _ _ (and-r (installs s (consumerIn (s .args .link))) _ both)))
 
+-- and its declarations are looked up
+abbrev passed : tie.After-declared → tie.Else2
+passed d = d .before .before .before .before
+
 returns : tie.Need-returns
 returns c =
     let r = c .before .before in
@@ -74,7 +81,7 @@ returns c =
     let l = s .args .link in
     let t : l .live ≡ false = not-true _ (c .if1 .taken) in
     let below : ℕ → Bool = λ i. ltb i (s .args .issued) in (
-      (λ j. below (consumer-is r j) && below (provider-is r j)) ∙ sym (dead-ends l t (s .args .issued) (installs s) (serves s) (declarations s) (s .args .seen .now)),
+      (λ j. below (consumer-is r j) && below (provider-is r j)) ∙ sym (dead-ends l t (s .args .issued) (generation s) (installs s) (serves s) (declarations s) (s .args .seen .now)),
       λ h. (sym (dead-marked l t (s .args .seen .now)), s .pre .1, s .pre .2, λ i k. rw (dead-meets l t (row s i))),
     )
 
@@ -82,11 +89,13 @@ returns-2 : tie.Need-returns-2
 returns-2 c =
     let v = c .before in
     let s = start v in
-    (sym (ends-fail (s .args .link) (live v) (s .args .issued) (installs s) (serves s) (declarations s) (s .args .seen .now) (ends v (not-true _ (c .if2 .taken)))), λ x. clash false x refl)
+    let t = ends v (not-true _ (c .if2 .taken)) in
+    (sym (ends-fail (s .args .link) (live v) (s .args .issued) (generation s) (installs s) (serves s) (declarations s) (s .args .seen .now) t), λ x. clash false x refl)
 
 returns-3 : tie.Need-returns-3
 returns-3 c =
-    let m = c .before .before in
+    let d = c .before .before .before in
+    let m = d .before in
     let e = m .before .before .before in
     let a = s e .args in
     let l = a .link in
@@ -95,8 +104,9 @@ returns-3 c =
     let to = provider-is (read (e .before)) in
     let p = m .before .before .port-in .ensures in
     let want : m .meet .result ≡ declares (declarations (s e)) (consumerIn l) (portIn l) false = rw (from, p) at (m .meet .ensures .0) in
-    let offer : c .before .declared .result ≡ declares (declarations (s e)) (providerIn l) (portIn l) true = rw (to, p) at (c .before .declared .ensures) in (
-      (λ j. (want j && offer j) && not (getD (set (a .seen .now) (to j) true) (from j) false)) ∙ sym (ends-pass l t (a .issued) (installs (s e)) (serves (s e)) (declarations (s e)) (a .seen .now) (both e)),
+    let offer : d .declared .result ≡ declares (declarations (s e)) (providerIn l) (portIn l) true = rw (to, p) at (d .declared .ensures) in
+    let rest = ends-pass l t (a .issued) (generation (s e)) (installs (s e)) (serves (s e)) (declarations (s e)) (a .seen .now) (both e) in (
+      (λ j. want j && offer j && eqb (l .generation) (generation (s e) (to j)) && not (getD (set (a .seen .now) (to j) true) (from j) false)) ∙ sym rest,
       λ x. (
         ap (λ (x : ℕ). set (a .seen .now) x true) to ∙ live-marked l t (a .seen .now),
         length-set (a .seen .now) _ true ∙ s e .pre .1,
@@ -112,6 +122,6 @@ link-ok-spec = tie.close (tie.spec
     (λ c κs. search needs) (λ c κs. search needs)  -- flag-at-requires, flag-at-requires-2
     returns-2
     (λ c κs. search needs) (λ c κs. search needs) (λ c κs. search needs)  -- port-in-requires, meet-requires, declared-requires
-    (λ c. provider-below (c .before .before .before .before))  -- element-write-seen
-    (λ c. consumer-below (c .before .before .before .before))  -- element-copy-out-result
+    (λ c. omega (arith, provider-below (passed c))) (λ c. provider-below (passed c))  -- mul-same, element-copy-out-same
+    (λ c. provider-below (passed (c .before .before))) (λ c. consumer-below (passed (c .before .before)))  -- element-write-seen, element-copy-out-result
     returns-3)

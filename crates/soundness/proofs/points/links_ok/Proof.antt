@@ -3,18 +3,19 @@ use Rattle.model.proofs.Logic.{Bool, List, _&&_, _+_, _-_, _<_, _||_, _∙_, _�
 use Rattle.model.specs.{Lists.all, Lists.any, Records.blankLink, Records.isBlankLink, Records.providerIn, Soundness.ordered, declared.records.Declaration.Declaration, declared.records.Link.Link}
 use Rattle.model.proofs.{Laws.Booleans.and-l, Laws.Booleans.clash}
 use Rattle.loops.proofs.{Laws.Chains.any-more, Laws.Columns.rows-most, Laws.Marking.leftToPass, Laws.Marking.mark-none, Laws.Marking.pass-done, Laws.Marking.pass-hit, Laws.Marking.pass-next, Laws.Marking.provider-below, Laws.Scan.below-most, Laws.Scan.part-done, Laws.Scan.part-next, Laws.Scan.take-most, Laws.Scanning.Joining, Laws.Scanning.join-end, Laws.Scanning.join-on, Laws.Scanning.join-start}
-use Rattle.loops.specs.{Columns.declarationAt, Columns.declarationsOf, Columns.flag, Marks.marked, Marks.meets, Marks.unmarked, Passes.linkPasses}
+use Rattle.loops.specs.{Columns.declarationAt, Columns.declarationsOf, Columns.flag, Columns.number, Marks.marked, Marks.meets, Marks.unmarked, Passes.linkPasses}
 use Rattle.soundness.proofs.{points.links_ok.Statement.statement}
 use Rattle.soundness.proofs.points.links_ok.Tie as tie
 use Rattle.sizes.specs.{Sizes.DECLARATIONS, Sizes.IDENTITIES, Sizes.LINKS}
 
 -- a link passes, by the columns
-abbrev passes : List ℕ → List ℕ → List ℕ → List Bool → ℕ → ℕ → List Bool → List Bool → Link → Bool
-passes owner key realm provides count issued installed serving = linkPasses issued (flag IDENTITIES installed) (flag IDENTITIES serving) (take count (declarationsOf DECLARATIONS owner key realm provides))
+abbrev passes : List ℕ → List ℕ → List ℕ → List Bool → ℕ → ℕ → List Bool → List Bool → List ℕ → Link → Bool
+passes owner key realm provides count issued installed serving generation =
+    linkPasses issued (number generation) (flag IDENTITIES installed) (flag IDENTITIES serving) (take count (declarationsOf DECLARATIONS owner key realm provides))
 
 abbrev Inv-loop : tie.InvT-loop
-Inv-loop linked owner key realm provides count issued installed serving met₀ links size first next end seen₀ i₀ met seen i =
-    let ok = passes owner key realm provides count issued installed serving in
+Inv-loop linked owner key realm provides count issued installed serving generation met₀ links size first next end seen₀ i₀ met seen i =
+    let ok = passes owner key realm provides count issued installed serving generation in
     (i ≤ end)
     × (length seen ≡ IDENTITIES)
     × (length met ≡ DECLARATIONS)
@@ -22,17 +23,17 @@ Inv-loop linked owner key realm provides count issued installed serving met₀ l
     × ((k : ℕ) → k < size → getD met k false ≡ any (meets (declarationAt owner key realm provides k)) (take i links))
 
 abbrev μ-loop : tie.MeasureT-loop
-μ-loop linked owner key realm provides count issued installed serving met₀ links size first next end seen₀ i₀ met seen i = end - i
+μ-loop linked owner key realm provides count issued installed serving generation met₀ links size first next end seen₀ i₀ met seen i = end - i
 
 abbrev Inv-loop2 : tie.InvT-loop2
-Inv-loop2 linked owner key realm provides count issued installed serving met links size end i₀ rest₀ i rest =
-    let ok = passes owner key realm provides count issued installed serving in
+Inv-loop2 linked owner key realm provides count issued installed serving generation met links size end i₀ rest₀ i rest =
+    let ok = passes owner key realm provides count issued installed serving generation in
     (true ≡ all ok (take linked links) && ordered (take linked links))
     × ((k : ℕ) → k < size → getD met k false ≡ any (meets (declarationAt owner key realm provides k)) (take linked links))
     × Joining isBlankLink rest LINKS links i (all isBlankLink (drop linked links))
 
 abbrev μ-loop2 : tie.MeasureT-loop2
-μ-loop2 linked owner key realm provides count issued installed serving met links size end i₀ rest₀ i rest = LINKS - i
+μ-loop2 linked owner key realm provides count issued installed serving generation met links size end i₀ rest₀ i rest = LINKS - i
 
 -- what it is asked
 module _ (s : tie.Start Inv-loop μ-loop Inv-loop2 μ-loop2) where
@@ -40,7 +41,9 @@ module _ (s : tie.Start Inv-loop μ-loop Inv-loop2 μ-loop2) where
   row = declarationAt (s .args .owner .now) (s .args .key .now) (s .args .realm .now) (s .args .provides .now)
 
   abbrev ok : Link → Bool
-  ok = passes (s .args .owner .now) (s .args .key .now) (s .args .realm .now) (s .args .provides .now) (s .args .count) (s .args .issued) (s .args .installed .now) (s .args .serving .now)
+  ok =
+      let a = s .args in
+      passes (a .owner .now) (a .key .now) (a .realm .now) (a .provides .now) (a .count) (a .issued) (a .installed .now) (a .serving .now) (a .generation .now)
 
   full : length (s .args .t1) ≡ LINKS
   full = omega arith
@@ -68,7 +71,7 @@ module _ (n : tie.In-loop Inv-loop μ-loop Inv-loop2 μ-loop2) where
   link = getD (s .args .t1) (n .before .loop .i) blankLink
 
   bound : ok s link ≡ true → link .live ≡ true → providerIn link < length (n .before .loop .seen)
-  bound o t = rw (n .before .loop .inv .1) (provider-below IDENTITIES (flag IDENTITIES (s .args .installed .now)) (s .args .serving .now) _ link (and-l _ _ o) t)
+  bound o t = rw (n .before .loop .inv .1) (provider-below IDENTITIES (flag IDENTITIES (s .args .installed .now)) (s .args .serving .now) _ link (and-l _ _ (and-l _ _ o)) t)
 
   inside : n .before .loop .i < length (s .args .t1)
   inside = omega (arith, cut .at-most2 .ensures .within, full s)
