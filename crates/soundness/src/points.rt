@@ -211,6 +211,9 @@ fn link_ok(
     if !(flag_at(installed, c) & flag_at(serving, p)) {
         return false;
     }
+    if link.generation != generation[p] {
+        return false;
+    }
     let port = records::port_in(link);
     let wanted = meet(
         owner,
@@ -236,9 +239,8 @@ fn link_ok(
         port,
         true,
     );
-    let same = link.generation == generation[p];
     seen[p] = true;
-    wanted & offered & same & !seen[c]
+    wanted & offered & !seen[c]
 }
 
 // Whether each link below the count is ok and the links past it are blank; the dependencies that a live link meets are marked.

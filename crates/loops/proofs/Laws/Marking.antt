@@ -1,5 +1,5 @@
 -- The order of links by one pass that marks the providers met: what is left to test, a step on, a hit and the end.
-use Rattle.model.proofs.Logic.{Bool, Bool·not-not, List, [], _&&_, _<_, _||_, _∙_, _∷_, _≡_, _⊎_, and-comm, and-false, and-true, cond, eqb, eqb-false, eqb-true, false, getD, getD-set-other, getD-set-same, inl, inr, length, ltb, ltb-true, ne-eqb, not, refl, replicate, set, suc, sym, true, zero, ℕ}
+use Rattle.model.proofs.Logic.{Bool, Bool·not-not, List, [], _&&_, _<_, _||_, _∙_, _∷_, _≡_, _⊎_, and-comm, and-false, and-true, ap, cond, eqb, eqb-false, eqb-true, false, getD, getD-set-other, getD-set-same, inl, inr, length, ltb, ltb-true, ne-eqb, not, refl, replicate, set, suc, sym, true, zero, ℕ}
 use Rattle.model.specs.{Lists._⇒_, Lists.all, Lists.any, Lists.conj, Lists.onward, Records.consumerIn, Records.declaredPort, Records.ownerIn, Records.portIn, Records.providerIn, Soundness.apart, Soundness.deadOk, Soundness.declares, Soundness.endTests, Soundness.episodeOk, Soundness.isCovered, Soundness.isDeclaration, Soundness.linkOk, Soundness.linkTests, Soundness.linksTo, Soundness.ordered, declared.records.Declaration.Declaration, declared.records.Link.Link}
 use Rattle.model.proofs.{Laws.Booleans.Each, Laws.Booleans.and-l, Laws.Booleans.and-r, Laws.Booleans.cases, Laws.Booleans.each, Laws.Booleans.imp-e, Laws.Lists.in-all}
 use Rattle.loops.proofs.{Laws.Chains.is-dependency, Laws.Passes.all-both}
@@ -125,16 +125,23 @@ module _ (l : Link) (t : l .live ≡ true) where
     unfolding linkOk deadOk episodeOk
     ends-fail h = rw (t, h)
 
+    -- its provider has another generation
+    pub episode-fails : eqb (l .generation) (generation (providerIn l)) ≡ false → linkPasses issued generation installs serves ds l && unmarked (marked seen l) l ≡ false
+    unfolding episodeOk
+    episode-fails h =
+        let ok = linkOk installs serves ds l && deadOk issued l in
+        let other : episodeOk generation l ≡ false = rw (t, h) in
+        ap (λ (b : Bool). b && unmarked (marked seen l) l) (ap (λ (b : Bool). ok && b) other ∙ and-false ok)
+
     -- both ends declared the port
     abbrev both : Bool
     both = declares ds (consumerIn l) (portIn l) false && declares ds (providerIn l) (portIn l) true
 
     -- the rest decides
-    pub ends-pass : installs (consumerIn l) && serves (providerIn l) ≡ true
-        → linkPasses issued generation installs serves ds l && unmarked (marked seen l) l
-        ≡ both && eqb (l .generation) (generation (providerIn l)) && not (getD (set seen (providerIn l) true) (consumerIn l) false)
+    pub ends-pass : installs (consumerIn l) && serves (providerIn l) ≡ true → eqb (l .generation) (generation (providerIn l)) ≡ true
+        → linkPasses issued generation installs serves ds l && unmarked (marked seen l) l ≡ both && not (getD (set seen (providerIn l) true) (consumerIn l) false)
     unfolding linkOk deadOk episodeOk
-    ends-pass h = rw (t, h, and-true both)
+    ends-pass h e = rw (t, h, e, and-true both, and-true both)
 
   pub live-marked : (seen : List Bool) → set seen (providerIn l) true ≡ marked seen l
   live-marked seen = rw t

@@ -1,8 +1,8 @@
 -- `soundness::points::link_ok` meets its contract.
-use Rattle.model.proofs.Logic.{Bool, List, _&&_, _<_, _∙_, _≡_, ap, arith, eqb, false, getD, length-set, ltb, ltb-true, needs, not, not-false, not-true, refl, set, sym, take, true, ℕ}
-use Rattle.model.specs.{Records.consumerIn, Records.portIn, Records.providerIn, Soundness.declares, declared.records.Declaration.Declaration, declared.records.Link.Link}
+use Rattle.model.proofs.Logic.{Bool, List, _&&_, _<_, _||_, _∙_, _≡_, ap, arith, eq-eqb, false, getD, length-set, ltb, ltb-true, ne-eqb, needs, not, not-false, not-true, refl, set, sym, take, true, ℕ}
+use Rattle.model.specs.{Records.consumerIn, Records.portIn, Records.providerIn, Soundness.declares, Soundness.isDeclaration, declared.records.Declaration.Declaration, declared.records.Link.Link}
 use Rattle.model.proofs.{Laws.Booleans.and-l, Laws.Booleans.and-r, Laws.Booleans.clash}
-use Rattle.loops.proofs.{Laws.Marking.dead-ends, Laws.Marking.dead-marked, Laws.Marking.dead-meets, Laws.Marking.ends-fail, Laws.Marking.ends-pass, Laws.Marking.live-marked, Laws.Marking.live-meets}
+use Rattle.loops.proofs.{Laws.Marking.dead-ends, Laws.Marking.dead-marked, Laws.Marking.dead-meets, Laws.Marking.ends-fail, Laws.Marking.ends-pass, Laws.Marking.episode-fails, Laws.Marking.live-marked, Laws.Marking.live-meets}
 use Rattle.loops.specs.{Columns.declarationAt, Columns.declarationsOf, Columns.flag, Columns.number}
 use Rattle.soundness.proofs.{points.link_ok.Statement.statement}
 use Rattle.soundness.proofs.points.link_ok.Tie as tie
@@ -70,8 +70,16 @@ module _ (e : tie.Else2) where
   provider-below : read (e .before) .provider-in .result < IDENTITIES
   provider-below = rw (provider-is (read (e .before))) (ltb-true _ IDENTITIES (and-l _ _ (and-r (installs s (consumerIn (s .args .link))) _ both)))
 
+  -- the number that its provider has, as it was read
+  number-is : generation s (read (e .before) .provider-in .result) ≡ generation s (providerIn (s .args .link))
+  number-is = ap (generation s) (provider-is (read (e .before)))
+
+-- and its provider is of its generation
+abbrev through : tie.Else3 → tie.Else2
+through g = g .before .before .before
+
 -- and its declarations are looked up
-abbrev passed : tie.After-declared → tie.Else2
+abbrev passed : tie.After-declared → tie.Else3
 passed d = d .before .before .before .before
 
 returns : tie.Need-returns
@@ -94,24 +102,33 @@ returns-2 c =
 
 returns-3 : tie.Need-returns-3
 returns-3 c =
-    let d = c .before .before .before in
+    let e = c .before .before .before in
+    let a = s e .args in
+    let other = ne-eqb _ _ (λ x. c .if3 .taken (x ∙ sym (number-is e))) in
+    (sym (episode-fails (a .link) (live (e .before)) (a .issued) (generation (s e)) (installs (s e)) (serves (s e)) (declarations (s e)) (a .seen .now) other), λ x. clash false x refl)
+
+returns-4 : tie.Need-returns-4
+returns-4 c =
+    let d = c .before in
     let m = d .before in
-    let e = m .before .before .before in
+    let g = passed d in
+    let e = through g in
     let a = s e .args in
     let l = a .link in
     let t = live (e .before) in
     let from = consumer-is (read (e .before)) in
     let to = provider-is (read (e .before)) in
     let p = m .before .before .port-in .ensures in
-    let want : m .meet .result ≡ declares (declarations (s e)) (consumerIn l) (portIn l) false = rw (from, p) at (m .meet .ensures .0) in
-    let offer : d .declared .result ≡ declares (declarations (s e)) (providerIn l) (portIn l) true = rw (to, p) at (d .declared .ensures) in
-    let rest = ends-pass l t (a .issued) (generation (s e)) (installs (s e)) (serves (s e)) (declarations (s e)) (a .seen .now) (both e) in (
-      (λ j. want j && offer j && eqb (l .generation) (generation (s e) (to j)) && not (getD (set (a .seen .now) (to j) true) (from j) false)) ∙ sym rest,
+    let want = m .meet .ensures .0 ∙ (λ j. declares (declarations (s e)) (from j) (p j) false) in
+    let offer = d .declared .ensures ∙ (λ j. declares (declarations (s e)) (to j) (p j) true) in
+    let met : ℕ → Bool → Bool = λ i b. b || getD (a .met .now) i false in
+    let rest = ends-pass l t (a .issued) (generation (s e)) (installs (s e)) (serves (s e)) (declarations (s e)) (a .seen .now) (both e) (eq-eqb _ _ (g .if3 .left ∙ number-is e)) in (
+      (λ j. want j && offer j && not (getD (set (a .seen .now) (to j) true) (from j) false)) ∙ sym rest,
       λ x. (
         ap (λ (x : ℕ). set (a .seen .now) x true) to ∙ live-marked l t (a .seen .now),
         length-set (a .seen .now) _ true ∙ s e .pre .1,
         m .meet .ensures .1,
-        λ i k. rw (from, p, live-meets l t (row (s e) i)) at (m .meet .ensures .2 i k),
+        λ i k. m .meet .ensures .2 i k ∙ ap (met i) ((λ j. isDeclaration (from j) (p j) false (row (s e) i)) ∙ live-meets l t (row (s e) i)),
       ),
     )
 
@@ -121,7 +138,8 @@ link-ok-spec = tie.close (tie.spec
     returns
     (λ c κs. search needs) (λ c κs. search needs)  -- flag-at-requires, flag-at-requires-2
     returns-2
+    (λ c. omega (arith, provider-below c)) (λ c. provider-below c)  -- mul-if3, element-copy-out-if3
+    returns-3
     (λ c κs. search needs) (λ c κs. search needs) (λ c κs. search needs)  -- port-in-requires, meet-requires, declared-requires
-    (λ c. omega (arith, provider-below (passed c))) (λ c. provider-below (passed c))  -- mul-same, element-copy-out-same
-    (λ c. provider-below (passed (c .before .before))) (λ c. consumer-below (passed (c .before .before)))  -- element-write-seen, element-copy-out-result
-    returns-3)
+    (λ c. provider-below (through (passed c))) (λ c. consumer-below (through (passed c)))  -- element-write-seen, element-copy-out-result
+    returns-4)
