@@ -13,7 +13,7 @@ use Rattle.kernel.specs.Outcomes.{command}
 use Rattle.model.specs.Commands.{Command}
 use Rattle.model.specs.Episodes.{EpisodesAt, lastGenerations}
 use Rattle.model.specs.Iteration.{Agree, RuleAt, committedOf, last, targetOf}
-use Rattle.model.specs.Kernels.{AnsweredAt, emptyKernel, reached}
+use Rattle.model.specs.Kernels.{AnsweredAt, reached}
 use Rattle.model.specs.Refusals.{Reply}
 use Rattle.model.specs.Resolution.{targetList}
 use Rattle.model.specs.Space.{BegunAfterCompaction, RefusedForSpace}

@@ -1,6 +1,6 @@
 -- What the tests on lists say, by membership and by place.
-use Rattle.model.proofs.Logic.{Bool, List, List·Memᴰ, List·Memᴰ·cases-cons, List·Memᴰ·head, List·Memᴰ·not-nil, List·Memᴰ·tail, Option, [], _++_, _+_, _<_, _||_, _∷_, _≡_, _≤_, _⊎_, add-zero, ap, arith, cond, false, getD, inl, inr, length, map, none, refl, some, suc, sym, true, true≢false, zero, ℕ, ⊎-elim}
-use Rattle.model.proofs.{Laws.Booleans.and-i, Laws.Booleans.and-l, Laws.Booleans.and-r, Laws.Booleans.cases, Laws.Booleans.clash, Laws.Booleans.or-f-l, Laws.Booleans.or-f-r}
+use Rattle.model.proofs.Logic.{Bool, List, List·Memᴰ, List·Memᴰ·cases-cons, List·Memᴰ·head, List·Memᴰ·not-nil, List·Memᴰ·tail, Option, [], _++_, _+_, _<_, _||_, _∷_, _≡_, _≤_, _⊎_, add-zero, ap, arith, cond, false, getD, length, map, none, refl, some, suc, sym, true, true≢false, zero, ℕ, ⊎-elim}
+use Rattle.model.proofs.{Laws.Booleans.and-i, Laws.Booleans.and-l, Laws.Booleans.and-r, Laws.Booleans.clash, Laws.Booleans.or-f-l, Laws.Booleans.or-f-r}
 use Rattle.model.specs.{Lists.all, Lists.allAt, Lists.any, Lists.find, Lists.isNone, Lists.keep, Lists.onward, Points.Among, Points.At}
 
 -- ---- membership
@@ -70,6 +70,7 @@ module _ {A : Type 0} where
   pub all-keep : (q p : A → Bool) (xs : List A) → all p xs ≡ true → all p (keep q xs) ≡ true
   all-keep q p xs h = in-all p (keep q xs) (λ x m. all-in p ((in-keep q xs m) .0) h)
 
+-- none is no entry
 pub never : {C : Type 0} {A : Type 0} (a : A) → _≡_ {A = Option A} none (some a) → C
 never a e = let z : _≡_ {A = ℕ} 0 1 = cc in absurd (omega arith)
 
@@ -212,5 +213,3 @@ module _ {A : Type 0} where
       go true e false d ih = rw d ih
       go false e true d ih = clash (q x) (f x d) e
       go false e false d ih = ih
-
--- none is no list

@@ -1,6 +1,6 @@
 -- The generation that a live link stores is its provider's: now, on sound tables, and at the begin that made the link, after every list of commands.
 use Rattle.model.proofs.Logic.{List, List·Memᴰ, Option, Option·map, [], _↔_, _∙_, _≡_, ap, map, map-map, none, refl, some, subst, sym, true, ℕ}
-use Rattle.model.specs.{Commands.Command, Episodes.EpisodeRule, Episodes.EpisodesAt, Episodes.LiveLinkOf, Episodes.SaysEpisode, Episodes.lastGenerations, Episodes.linkGenerations, Episodes.providerGenerations, Episodes.targetGenerations, Iteration.committedOf, Iteration.phaseOf, Iteration.runs, Kernels.asked, Layouts.Layout, Layouts.layOut, Layouts.soundKernel, Layouts.tablesOf, Lifecycle.begunLink, Lifecycle.phaseAt, Lists.find, Observers.linkGeneration, Observers.phase, Records.bindingIn, Records.consumerIn, Records.isRunning, Records.portIn, Records.portOf, Records.providerIn, Records.provision, Resolution.committed, Resolution.target, Resolution.targetList, Sizes.Sizes, Soundness.linksTo, Soundness.sound, Tables.Tables, Tables.generationAt, declared.Binding.Binding, declared.Port.Port, declared.records.Link.Link}
+use Rattle.model.specs.{Episodes.EpisodeRule, Episodes.EpisodesAt, Episodes.LiveLinkOf, Episodes.SaysEpisode, Episodes.lastGenerations, Episodes.linkGenerations, Episodes.providerGenerations, Episodes.targetGenerations, Iteration.phaseOf, Iteration.runs, Kernels.asked, Layouts.Layout, Layouts.layOut, Layouts.soundKernel, Layouts.tablesOf, Lifecycle.begunLink, Lifecycle.phaseAt, Lists.find, Observers.linkGeneration, Observers.phase, Records.bindingIn, Records.isRunning, Records.portIn, Records.portOf, Records.providerIn, Records.provision, Resolution.committed, Resolution.target, Resolution.targetList, Sizes.Sizes, Soundness.linksTo, Soundness.sound, Tables.Tables, Tables.generationAt, declared.Binding.Binding, declared.Port.Port, declared.records.Link.Link}
 use Rattle.model.proofs.{Laws.Booleans.clash, Laws.Committed.live-link-of, Laws.Committed.liveLinksOf, Laws.Facts.Safe, Laws.Facts.Sound, Laws.Facts.facts, Laws.Facts.links-to, Laws.Facts.of-links-to, Laws.Lists.at-in, Laws.Lists.find-in, Laws.Lists.in-at, Laws.Lists.in-keep, Laws.Lists.map-same, Laws.Lists.none-found, Theorems.Commands.run, Theorems.Commands.run-sound, Theorems.Iteration.observed, Theorems.IterationInvariant.IterationInvariant, Theorems.Kernels.asked-of, Theorems.Kernels.asked-sound, Theorems.Kernels.last-invariant, Theorems.Kernels.last-links, Theorems.Kernels.lastLinks, Theorems.Kernels.reached-is, Theorems.Layouts.tables-sound}
 
 -- ---- now

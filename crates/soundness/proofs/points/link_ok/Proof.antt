@@ -1,6 +1,6 @@
 -- `soundness::points::link_ok` meets its contract.
 use Rattle.model.proofs.Logic.{Bool, List, _&&_, _<_, _||_, _∙_, _≡_, ap, arith, eq-eqb, false, getD, length-set, ltb, ltb-true, ne-eqb, needs, not, not-false, not-true, refl, set, sym, take, true, ℕ}
-use Rattle.model.specs.{Records.consumerIn, Records.portIn, Records.providerIn, Soundness.declares, Soundness.isDeclaration, declared.records.Declaration.Declaration, declared.records.Link.Link}
+use Rattle.model.specs.{Records.consumerIn, Records.providerIn, Soundness.declares, Soundness.isDeclaration, declared.records.Declaration.Declaration, declared.records.Link.Link}
 use Rattle.model.proofs.{Laws.Booleans.and-l, Laws.Booleans.and-r, Laws.Booleans.clash}
 use Rattle.loops.proofs.{Laws.Marking.dead-ends, Laws.Marking.dead-marked, Laws.Marking.dead-meets, Laws.Marking.ends-fail, Laws.Marking.ends-pass, Laws.Marking.episode-fails, Laws.Marking.live-marked, Laws.Marking.live-meets}
 use Rattle.loops.specs.{Columns.declarationAt, Columns.declarationsOf, Columns.flag, Columns.number}
