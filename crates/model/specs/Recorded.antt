@@ -8,6 +8,7 @@ use Rattle.model.specs.declared.records.Declaration.{Declaration}
 use Rattle.model.specs.declared.records.Link.{Link}
 use Rattle.model.specs.declared.records.Node.{Node}
 use Rattle.model.specs.Commands.{Command, step}
+use Rattle.model.specs.Observers.{bindingRecords}
 use Rattle.model.specs.Records.{bindingIn, consumerIn}
 use Rattle.model.specs.Resolution.{committed}
 use Rattle.model.specs.Sizes.{Sizes}
@@ -29,9 +30,10 @@ pub record Recorded : Type 0 where
 abbrev pub recorded : Tables → Recorded
 recorded T = record { nodes = T .nodes; declarations = T .declarations; links = map recordIn (T .links) }
 
--- nothing that the original has depends on a link's generation: tables that differ in these alone give every command the same reply,
--- are left with the same records, and have the same committed
+-- of tables that differ in their links' generations alone: every command gets the same reply and leaves the same records, and binding_records and committed answer the same;
+-- the original's other observers and both checks read nodes and declarations, which are the same tables
 pub record GenerationsUnread (S : Sizes) (T U : Tables) : Type 0 where
   pub replies : (c : Command) → (step S T c) .reply ≡ (step S U c) .reply
   pub tables : (c : Command) → recorded ((step S T c) .tables) ≡ recorded ((step S U c) .tables)
+  pub counts : bindingRecords T ≡ bindingRecords U
   pub commitments : (id : ℕ) → committed (T .links) id ≡ committed (U .links) id

@@ -139,7 +139,7 @@ dependency o p = declarationOf o false p
 abbrev pub provision : ℕ → Port → Declaration
 provision o p = declarationOf o true p
 
--- a live link or a dead one, with the provider's generation at its begin
+-- a live link or a dead one, with the generation that its provider had when the consumer began
 abbrev pub linkOf : ℕ → Binding → ℕ → Bool → Link
 linkOf id b g live = record { key = b .key; realm = b .realm; generation = g; consumer = id; provider = b .provider; live = live }
 

@@ -1,7 +1,7 @@
--- What the original has does not depend on the generation that a link stores: no reply, no record but that number, and not committed.
-use Rattle.model.proofs.Logic.{Bool, List, Option, [], _&&_, _++_, _+_, _-_, _∙_, _∷_, _≡_, ap, eqb, length, length-map, ltb, map, map-append, map-map, none, not, refl, some, subst, sym, ℕ}
-use Rattle.model.specs.{Commands.Command, Commands.report, Commands.result, Commands.settle, Commands.step, Commands.tests, Insertion.parentPresent, Insertion.parentRetired, Interface.reliesOn, Interface.taken, Interface.unknown, Lifecycle.beginNodeTests, Lifecycle.begunLink, Lifecycle.bindings, Lifecycle.relies, Lifecycle.unloadingTests, Lists.any, Lists.isNone, Lists.keep, Recorded.GenerationsUnread, Recorded.LinkRecord, Recorded.Recorded, Recorded.recordIn, Recorded.recorded, Records.bindingIn, Records.deadFor, Records.isLive, Records.portOf, Records.samePort, Refusals.Reply, Refusals.first, Resolution.committed, Resolution.isLiveLinkOf, Resolution.target, Resolution.targetList, Sizes.Sizes, Tables.Tables, Tables.nodeAt, declared.Error.Error, declared.Parent.Parent, declared.Port.Port, declared.records.Declaration.Declaration, declared.records.Link.Link, declared.records.Node.Node}
-use Rattle.model.proofs.{Laws.Lists.any-map, Laws.Lists.keep-map}
+-- What a command replies and leaves of the original's records does not depend on the generation that a link stores, nor do binding_records and committed.
+use Rattle.model.proofs.Logic.{Bool, List, Option, [], _&&_, _++_, _+_, _-_, _∙_, _∷_, _≡_, ap, eqb, length, length-map, ltb, map, map-append, map-map, none, not, refl, some, subst, sym, true, ℕ}
+use Rattle.model.specs.{Commands.Command, Commands.report, Commands.result, Commands.settle, Commands.step, Commands.tests, Insertion.parentPresent, Insertion.parentRetired, Interface.reliesOn, Interface.taken, Interface.unknown, Kernels.commanded, Layouts.Layout, Layouts.soundKernel, Layouts.tablesOf, Lifecycle.beginNodeTests, Lifecycle.begunLink, Lifecycle.bindings, Lifecycle.relies, Lifecycle.unloadingTests, Lists.any, Lists.isNone, Lists.keep, Recorded.GenerationsUnread, Recorded.LinkRecord, Recorded.Recorded, Recorded.recordIn, Recorded.recorded, Records.bindingIn, Records.deadFor, Records.isLive, Records.portOf, Records.samePort, Refusals.Reply, Refusals.first, Resolution.committed, Resolution.isLiveLinkOf, Resolution.target, Resolution.targetList, Sizes.Sizes, Tables.Tables, Tables.nodeAt, declared.Error.Error, declared.Parent.Parent, declared.Port.Port, declared.records.Declaration.Declaration, declared.records.Link.Link, declared.records.Node.Node}
+use Rattle.model.proofs.{Laws.Lists.any-map, Laws.Lists.keep-map, Theorems.Upstream.Kernels.commanded-reply, Theorems.Upstream.Kernels.commanded-tables}
 
 -- ---- what is asked and made of a link, by its record
 
@@ -128,6 +128,7 @@ module _ (S : Sizes) (ns : List Node) (ds : List Declaration) (ls ms : List Link
   unread = record {
     replies = λ c. (stepped c) .0;
     tables = λ c. (stepped c) .1;
+    counts = count-same;
     commitments = λ id. sym (bindings-read id ls) ∙ ap (map (λ (x : LinkRecord). x .binding)) (keep-same (liveRecordOf id)) ∙ bindings-read id ms;
   }
     where
@@ -138,3 +139,13 @@ pub generations-unread : (S : Sizes) (T U : Tables) → recorded T ≡ recorded 
 generations-unread S T U e =
     subst (λ (X : Tables). GenerationsUnread S X U) (λ i. record { nodes = sym e i .nodes; declarations = sym e i .declarations; links = T .links })
     (unread S (U .nodes) (U .declarations) (T .links) (U .links) (ap (λ (r : Recorded). r .links) e))
+
+-- and of two sound kernels
+pub kernel-unread :
+    (S : Sizes) (k m : Layout) (c : Command) → soundKernel S k ≡ true → soundKernel S m ≡ true → recorded (tablesOf k) ≡ recorded (tablesOf m)
+    → ((commanded S k c) .reply ≡ (commanded S m c) .reply) × (recorded (tablesOf ((commanded S k c) .kernel)) ≡ recorded (tablesOf ((commanded S m c) .kernel)))
+kernel-unread S k m c h g e =
+    let u = generations-unread S (tablesOf k) (tablesOf m) e in (
+      commanded-reply S k c h ∙ u .replies c ∙ sym (commanded-reply S m c g),
+      ap recorded (commanded-tables S k c h) ∙ u .tables c ∙ ap recorded (sym (commanded-tables S m c g)),
+    )
