@@ -95,12 +95,66 @@ pub fn wide() -> Controller {
 
 /// Nearer in live links: one owner with 32 provisions, seven with those 32 dependencies each, 224 live links.
 pub fn crowded() -> Controller {
+    finish("224 live links".into(), crowd(), 8, Roles { retired: 1, cycled: 7, cycles: 9, refill: (7, 0) })
+}
+
+/// Its components, inserted.
+fn crowd() -> Script {
     let mut setup = Script::default();
     provider(&mut setup, &ports(0..32));
     for _ in 0..7 {
         setup.insert(&ports(0..32), &[]);
     }
-    finish("224 live links".into(), setup, 8, Roles { retired: 1, cycled: 7, cycles: 9, refill: (7, 0) })
+    setup
+}
+
+/// Links for a compaction, of which none, the first half or all are dead: 224 live ones; all seven components cycled; and stopped.
+pub fn dead_links() -> [(&'static str, Script); 3] {
+    let mut none = crowd();
+    for id in 0..8 {
+        none.start(id);
+    }
+    let mut half = none.clone();
+    for id in 1..8 {
+        half.cycle(id);
+    }
+    let mut all = half.clone();
+    for id in 1..8 {
+        all.stop(id);
+    }
+    [("224 links, none dead", none), ("448 links, half dead", half), ("448 links, all dead", all)]
+}
+
+/// 256 declarations for a compaction, of four owners that never begin, of which all, the second and the last, or none are present.
+pub fn absent_owners() -> [(&'static str, Script); 3] {
+    let none = owners();
+    let (mut half, mut all) = (none.clone(), none.clone());
+    for id in 0..4 {
+        all.remove(id);
+        if id % 2 == 0 {
+            half.remove(id);
+        }
+    }
+    [
+        ("256 declarations, all owners present", none),
+        ("256 declarations, half present", half),
+        ("256 declarations, none present", all),
+    ]
+}
+
+/// Those owners, all present, and the first port that identity 0 provides.
+pub fn released() -> (&'static str, Script, Port) {
+    ("256 declarations, the 33rd released", owners(), port(0))
+}
+
+/// Four owners, each with 32 provisions, and 32 dependencies on the ports that it provides.
+fn owners() -> Script {
+    let mut setup = Script::default();
+    for id in 0..4 {
+        let provided = ports(32 * id..32 * id + 32);
+        setup.insert(&provided, &provided);
+    }
+    setup
 }
 
 /// 250 provisions whose keys are multiples of `step`, by five owners, and one component with six dependencies.

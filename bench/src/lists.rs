@@ -11,6 +11,8 @@ pub struct List {
     setup: Script,
     measured: Script,
     restore: Script,
+    /// The measured commands leave another kernel, and are played once.
+    once: bool,
 }
 
 impl List {
@@ -18,15 +20,24 @@ impl List {
         format!("{}/{}", self.controller, self.commands)
     }
 
+    /// How often the measured commands are played where so many repeats are wanted.
+    pub fn repeats(&self, wanted: usize) -> usize {
+        if self.once {
+            1
+        } else {
+            wanted
+        }
+    }
+
     /// How many commands are measured in so many repeats.
     pub fn measured(&self, repeats: usize) -> usize {
-        repeats * self.measured.calls()
+        self.repeats(repeats) * self.measured.calls()
     }
 
     /// The whole list, and the same without the measured commands: the difference of their times is theirs.
     pub fn scripts(&self, repeats: usize) -> (Script, Script) {
         let (mut whole, mut rest) = (self.setup.clone(), self.setup.clone());
-        for _ in 0..repeats {
+        for _ in 0..self.repeats(repeats) {
             whole.append(&self.measured);
             whole.append(&self.restore);
             rest.append(&self.restore);
@@ -37,7 +48,24 @@ impl List {
 
 pub fn all() -> Vec<List> {
     let configured = [0, 2].map(|free| configured(&controllers::pending(free)));
-    controllers().iter().flat_map(lists_of).chain(configured).collect()
+    controllers().iter().flat_map(lists_of).chain(configured).chain(dropping()).collect()
+}
+
+/// The commands that drop records, each once: both compactions with nothing, half and everything to drop, and a release.
+fn dropping() -> Vec<List> {
+    let links = controllers::dead_links()
+        .map(|(name, setup)| once(name, "compact_bindings", setup, |s| s.bare(log::COMPACT_BINDINGS, 0)));
+    let declarations = controllers::absent_owners()
+        .map(|(name, setup)| once(name, "compact_declarations", setup, |s| s.bare(log::COMPACT_DECLARATIONS, 0)));
+    let (name, setup, port) = controllers::released();
+    let release = once(name, "release", setup, |s| s.of_port(log::RELEASE, 0, port, 0));
+    links.into_iter().chain(declarations).chain([release]).collect()
+}
+
+fn once(controller: &str, commands: &'static str, setup: Script, write: impl Fn(&mut Script)) -> List {
+    let mut measured = Script::default();
+    write(&mut measured);
+    List { controller: controller.into(), commands, setup, measured, restore: Script::default(), once: true }
 }
 
 /// The last component, which never began, gets its two dependencies anew.
@@ -99,5 +127,5 @@ fn list(c: &Controller, commands: &'static str, write: impl Fn(&mut Script), cyc
     } else {
         write(&mut measured);
     }
-    List { controller: c.name.clone(), commands, setup: c.setup.clone(), measured, restore }
+    List { controller: c.name.clone(), commands, setup: c.setup.clone(), measured, restore, once: false }
 }

@@ -69,7 +69,10 @@ impl Samples {
             let (whole, rest) = list.scripts(repeats);
             let measured = list.measured(repeats);
             let many = !outgrow || 2 * measured >= rest.len();
-            if repeats >= MOST || many && shortest_of_3(side, &whole) - shortest_of_3(side, &rest) >= ENOUGH {
+            if repeats >= MOST
+                || list.repeats(repeats) < repeats
+                || many && shortest_of_3(side, &whole) - shortest_of_3(side, &rest) >= ENOUGH
+            {
                 return Samples { whole, rest, measured, with: Vec::new(), without: Vec::new() };
             }
             repeats *= 2;

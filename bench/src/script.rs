@@ -93,4 +93,10 @@ impl Script {
         self.stop(id);
         self.start(id);
     }
+
+    /// An Inactive component is retired and removed.
+    pub fn remove(&mut self, id: u8) {
+        self.of(log::RETIRE, id, 0);
+        self.of(log::REMOVE, id, 0);
+    }
 }

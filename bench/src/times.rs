@@ -42,8 +42,8 @@ fn print(lists: &[List], times: &[[Times; 4]]) {
     println!("| controller | nodes, declarations, links (live) | commands | {} |", names.join(" | "));
     println!("|---|---|---{}|", "|---".repeat(names.len()));
     for (list, times) in lists.iter().zip(times) {
-        let (whole, _) = list.scripts(1);
-        let s = original::sizes(&whole.log, &mut vec![0; whole.len()]);
+        let (_, rest) = list.scripts(1);
+        let s = original::sizes(&rest.log, &mut vec![0; rest.len()]);
         let size = format!("{}, {}, {} ({})", s.nodes, s.declarations, s.links, s.live);
         let each = times.iter().map(|t| format!("{:.0} / {:.0}", t.best, t.median));
         let ratios = RATIOS.iter().map(|&(_, a, b)| ratio(times[a], times[b]));

@@ -1,23 +1,26 @@
--- What the edits leave: records in an array with a count, blank past it.
+-- What the edits leave: a table compacted, and how many records were kept.
 use mathlib.Core.Bool.{Bool, not, true}
 use mathlib.Core.List.{List}
-use Rattle.loops.specs.Counted.{counted}
+use Prim.Native.Nat.{ℕ}
+use Rattle.loops.specs.InPlace.{compaction}
 use Rattle.edits.specs.declared.KeptDeclarations.{KeptDeclarations}
 use Rattle.edits.specs.declared.KeptLinks.{KeptLinks}
 use Rattle.edits.specs.declared.Rule.{Rule}
 use Rattle.model.specs.declared.records.Declaration.{Declaration}
 use Rattle.model.specs.declared.records.Link.{Link}
 use Rattle.model.specs.Interface.{remains}
-use Rattle.model.specs.Records.{blankDeclaration, blankLink, ownerIn}
+use Rattle.model.specs.Records.{blankDeclaration, blankLink, isLive, ownerIn}
 use Rattle.model.specs.Soundness.{isDeclaration}
 use Rattle.loops.specs.Columns.{flag}
-use Rattle.sizes.specs.Sizes.{DECLARATIONS, IDENTITIES, LINKS}
+use Rattle.sizes.specs.Sizes.{IDENTITIES}
 
-abbrev pub keptDeclarations : List Declaration → KeptDeclarations
-keptDeclarations = counted (λ ds n. record { declarations = ds; count = n }) DECLARATIONS blankDeclaration
+-- the declarations that pass, of those below the count
+abbrev pub keptDeclarations : (Declaration → Bool) → ℕ → List Declaration → KeptDeclarations
+keptDeclarations p = compaction p blankDeclaration (λ ds n. record { declarations = ds; count = n })
 
-abbrev pub keptLinks : List Link → KeptLinks
-keptLinks = counted (λ ls n. record { links = ls; count = n }) LINKS blankLink
+-- the live links, of those below the count
+abbrev pub keptLinks : ℕ → List Link → KeptLinks
+keptLinks = compaction isLive blankLink (λ ls n. record { links = ls; count = n })
 
 -- what a rule keeps; a table of yes/nos tells which owners are present
 abbrev pub keeping : List Bool → Rule → Declaration → Bool

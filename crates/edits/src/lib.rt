@@ -1,9 +1,8 @@
-// The loops that write a kernel's tables: what is kept, what becomes dead.
+// The loops that write a kernel's tables, each within its own: what is kept, what becomes dead.
 ghost use mathlib.Core.Path.{_≡_};
 ghost use mathlib.Core.List.{map, _++_};
 ghost use lib.ListN.{drop, take};
-ghost use Rattle.model.specs.Lists.{keep};
-ghost use Rattle.model.specs.Records.{deadFor, isLive};
+ghost use Rattle.model.specs.Records.{deadFor};
 ghost use Rattle.edits.specs.Kept.{keeping, keptDeclarations, keptLinks};
 use model::Declaration;
 use model::Link;
@@ -12,37 +11,43 @@ use sizes::DECLARATIONS;
 use sizes::IDENTITIES;
 use sizes::LINKS;
 
-// Declarations in order and how many, blank past the count.
+// Declarations, and how many of them were kept.
 pub struct KeptDeclarations {
     pub declarations: [Declaration; DECLARATIONS],
     pub count: usize,
 }
 
-// Links in order and how many, blank past the count.
+// Links, and how many of them were kept.
 pub struct KeptLinks {
     pub links: [Link; LINKS],
     pub count: usize,
 }
 
-// The live links below the count.
-pub fn live_links(links: [Link; LINKS], count: usize) -> KeptLinks
-    ensures { λ r. ⌜ r ≡ keptLinks (keep isLive (take count links)) ⌝ }
+// The live links below the count, moved up within their table; freed places are blanked.
+pub fn live_links(mut links: [Link; LINKS], count: usize) -> KeptLinks
+    ensures { λ r. ⌜ r ≡ keptLinks count links ⌝ }
 {
     let end = loops::at_most(count, LINKS);
-    let blank = records::blank_link();
-    let mut kept = [blank; LINKS];
     let mut n = 0;
     let mut i = 0;
     while i < end {
         let l = links[i];
         if l.live {
-            kept[n] = l;
+            if n < i {
+                links[n] = l;
+            }
             n += 1;
         }
         i += 1;
     }
+    let blank = records::blank_link();
+    let mut j = n;
+    while j < end {
+        links[j] = blank;
+        j += 1;
+    }
     KeptLinks {
-        links: kept,
+        links: links,
         count: n,
     }
 }
@@ -68,30 +73,36 @@ fn keeps(rule: Rule, present: &[bool; IDENTITIES], d: Declaration) -> bool
     }
 }
 
-// The declarations below the count that a rule keeps; present tells which owners are.
+// The declarations below the count that a rule keeps, moved up within their table; freed places are blanked. present tells which owners are.
 pub fn kept_declarations(
-    declarations: [Declaration; DECLARATIONS],
+    mut declarations: [Declaration; DECLARATIONS],
     count: usize,
     present: [bool; IDENTITIES],
     rule: Rule,
 ) -> KeptDeclarations
-    ensures { λ r. ⌜ r ≡ keptDeclarations (keep (keeping present rule) (take count declarations)) ⌝ }
+    ensures { λ r. ⌜ r ≡ keptDeclarations (keeping present rule) count declarations ⌝ }
 {
     let end = loops::at_most(count, DECLARATIONS);
-    let blank = records::blank_declaration();
-    let mut kept = [blank; DECLARATIONS];
     let mut n = 0;
     let mut i = 0;
     while i < end {
         let d = declarations[i];
         if keeps(rule, &present, d) {
-            kept[n] = d;
+            if n < i {
+                declarations[n] = d;
+            }
             n += 1;
         }
         i += 1;
     }
+    let blank = records::blank_declaration();
+    let mut j = n;
+    while j < end {
+        declarations[j] = blank;
+        j += 1;
+    }
     KeptDeclarations {
-        declarations: kept,
+        declarations: declarations,
         count: n,
     }
 }

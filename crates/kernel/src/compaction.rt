@@ -1,4 +1,5 @@
-// Compaction.
+// Compaction, each within its own table. Of an unsound kernel no record is read, so that it comes back as it is: with the edit behind a
+// test the compiler copies the table twice more.
 ghost use mathlib.Core.Path.{_≡_};
 ghost use Rattle.kernel.specs.Outcomes.{CompactionReturns};
 ghost use Rattle.model.specs.Commands.{Command};
@@ -7,6 +8,7 @@ use crate::Kernel;
 use edits::Rule;
 use model::Answer;
 use model::Error;
+use sizes::IDENTITIES;
 
 impl Kernel {
     // compact_bindings: keeps the live links.
@@ -14,18 +16,18 @@ impl Kernel {
         ensures { λ r. ⌜ CompactionReturns self Command.compactBindings r ⌝ }
     {
         let mut answer = Answer::Refused(Error::Damaged);
-        let mut removed = 0;
+        let links = self.links;
+        let count = self.link_count;
+        let mut end = 0;
         if self.sound() {
-            let links = self.links;
-            let count = self.link_count;
-            let kept = edits::live_links(links, count);
-            let n = kept.count;
-            let live = kept.links;
-            self.links = live;
-            self.link_count = n;
             answer = Answer::Done;
-            removed = count - n;
+            end = count;
         }
+        let kept = edits::live_links(links, end);
+        let live = kept.links;
+        let removed = end - kept.count;
+        self.links = live;
+        self.link_count = count - removed;
         CompactionOutcome {
             kernel: self,
             answer: answer,
@@ -38,21 +40,22 @@ impl Kernel {
         ensures { λ r. ⌜ CompactionReturns self Command.compactDeclarations r ⌝ }
     {
         let mut answer = Answer::Refused(Error::Damaged);
-        let mut removed = 0;
+        let nodes = self.nodes;
+        let declarations = self.declarations;
+        let count = self.declaration_count;
+        let mut present = [false; IDENTITIES];
+        let mut end = 0;
         if self.sound() {
-            let nodes = self.nodes;
-            let declarations = self.declarations;
-            let count = self.declaration_count;
             let flags = scans::node_flags(nodes);
-            let present = flags.present;
-            let kept = edits::kept_declarations(declarations, count, present, Rule::Owned);
-            let n = kept.count;
-            let owned = kept.declarations;
-            self.declarations = owned;
-            self.declaration_count = n;
+            present = flags.present;
             answer = Answer::Done;
-            removed = count - n;
+            end = count;
         }
+        let kept = edits::kept_declarations(declarations, end, present, Rule::Owned);
+        let owned = kept.declarations;
+        let removed = end - kept.count;
+        self.declarations = owned;
+        self.declaration_count = count - removed;
         CompactionOutcome {
             kernel: self,
             answer: answer,

@@ -23,7 +23,7 @@ impl Kernel {
         let mut answer = self.check_node(id, Row::Declare);
         if let Answer::Done = answer {
             let nodes = self.nodes;
-            let mut declarations = self.declarations;
+            let declarations = self.declarations;
             let count = self.declaration_count;
             if !scans::declares_in(declarations, count, id, port, true) {
                 let flags = scans::node_flags(nodes);
@@ -33,8 +33,9 @@ impl Kernel {
                 } else if DECLARATIONS <= count {
                     answer = Answer::Refused(Error::Capacity);
                 } else {
-                    declarations[count] = records::provision(id, port);
-                    self.declarations = declarations;
+                    let mut more = declarations;
+                    more[count] = records::provision(id, port);
+                    self.declarations = more;
                     self.declaration_count = count + 1;
                 }
             }
@@ -45,21 +46,23 @@ impl Kernel {
         }
     }
 
-    // release_provision: drops every provision of this owner and port.
+    // release_provision: drops every provision of this owner and port. Where it refuses no declaration is read.
     pub fn release_provision(mut self, id: usize, port: Port) -> Outcome
         ensures { λ r. ⌜ Returns self (Command.releaseProvision id port) r ⌝ }
     {
         let answer = self.check_release_provision(id, port);
+        let declarations = self.declarations;
+        let count = self.declaration_count;
+        let mut end = 0;
         if let Answer::Done = answer {
-            let declarations = self.declarations;
-            let count = self.declaration_count;
-            let unread = [false; IDENTITIES];
-            let rule = Rule::Released(id, port);
-            let kept = edits::kept_declarations(declarations, count, unread, rule);
-            let rest = kept.declarations;
-            self.declarations = rest;
-            self.declaration_count = kept.count;
+            end = count;
         }
+        let unread = [false; IDENTITIES];
+        let rule = Rule::Released(id, port);
+        let kept = edits::kept_declarations(declarations, end, unread, rule);
+        let rest = kept.declarations;
+        self.declarations = rest;
+        self.declaration_count = count - (end - kept.count);
         Outcome {
             kernel: self,
             answer: answer,

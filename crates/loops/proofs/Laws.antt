@@ -11,5 +11,6 @@ pub mod Passes
 pub mod Distinct
 pub mod Parents
 pub mod Chains
-pub mod Keeper
+pub mod InPlace
+pub mod Compacting
 pub mod Edit

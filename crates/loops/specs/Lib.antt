@@ -1,5 +1,5 @@
 pub mod Columns
-pub mod Counted
+pub mod InPlace
 pub mod Limits
 pub mod Chains
 pub mod Marks

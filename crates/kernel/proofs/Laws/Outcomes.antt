@@ -1,7 +1,7 @@
 -- What a method hands back, from what its kernel's layout is commanded and answers.
 use Rattle.model.proofs.Logic.{Bool, List, _++_, _<_, _∙_, _∷_, _≡_, ap, false, getD, inl, inr, none, not, not-false, not-true, refl, set, some, subst, sym, true, ℕ}
 use Rattle.kernel.specs.{Fields.isSound, Fields.kernelOf, Fields.layoutOf, Outcomes.CompactionReturns, Outcomes.Handed, Outcomes.InsertReturns, Outcomes.Returns, Outcomes.answerOf, Outcomes.command, Outcomes.compactionOutcome, Outcomes.insertOutcome, Outcomes.outcome, declared.CompactionOutcome.CompactionOutcome, declared.InsertOutcome.InsertOutcome, declared.Kernel.Kernel, declared.Outcome.Outcome}
-use Rattle.model.specs.{Answers.answer, Answers.answerNumber, Answers.insertAnswer, Answers.insertAnswerNumber, Answers.removedCount, Commands.Command, Commands.report, Commands.result, Commands.tests, Insertion.insertTests, Interface.unknown, Kernels.AnsweredAt, Layouts.Sized, Layouts.layOut, Layouts.tablesOf, Records.blankNode, Refusals.Reply, Refusals.Tests, Refusals.accepted, Refusals.first, Refusals.replyNumber, Rows.changedNode, Tables.Tables, Tables.nodeAt, Tables.present, Tables.withNode, declared.Answer.Answer, declared.Error.Error, declared.InsertAnswer.InsertAnswer, declared.Parent.Parent, declared.PortList.PortList, declared.records.Node.Node, declared.rows.Transition.Transition}
+use Rattle.model.specs.{Answers.answer, Answers.answerNumber, Answers.insertAnswer, Answers.insertAnswerNumber, Answers.removedCount, Commands.Command, Commands.report, Commands.result, Commands.tests, Insertion.insertTests, Interface.unknown, Kernels.AnsweredAt, Layouts.Sized, Layouts.layOut, Layouts.tablesOf, Records.blankNode, Refusals.Reply, Refusals.Tests, Refusals.accepted, Refusals.first, Refusals.replyNumber, Rows.changedNode, Tables.Tables, Tables.nodeAt, Tables.present, Tables.withNode, declared.Answer.Answer, declared.Error.Error, declared.InsertAnswer.InsertAnswer, declared.Parent.Parent, declared.PortList.PortList, declared.records.Declaration.Declaration, declared.records.Link.Link, declared.records.Node.Node, declared.rows.Transition.Transition}
 use Rattle.layouts.proofs.{Laws.Nodes.node-changed, Laws.Rows.Accepted, Laws.Rows.accepted-by, Laws.Rows.done-row, Laws.Rows.done-sound, Laws.Rows.done-whole, Laws.Rows.refused-by, Laws.Rows.refused-command, Laws.Rows.refused-whole, Laws.Sound.SoundKernel, Laws.Sound.node-count-is, Laws.Sound.present-below}
 use Rattle.model.proofs.{Laws.Refusals.Passed, Laws.Refusals.of-passed, Laws.Refusals.report-accepts, Theorems.Kernels.commanded-unsound, Theorems.Kernels.every-call-answered}
 use Rattle.sizes.specs.{Sizes.IDENTITIES, Sizes.sizes}
@@ -23,6 +23,17 @@ Leaves k c m = layOut sizes (result (tablesOf (layoutOf k)) c) ≡ layoutOf m
 -- a kernel with its nodes anew
 abbrev pub nodesTo : Kernel → List Node → Kernel
 nodesTo k ns = record { nodes = ns; «node_count» = k .«node_count»; declarations = k .declarations; «declaration_count» = k .«declaration_count»; links = k .links; «link_count» = k .«link_count» }
+
+-- one whose declarations, or links, and their count are as they were
+pub declarations-same :
+    (k : Kernel) {ds : List Declaration} {n : ℕ} → (k .declarations ≡ ds) × (k .«declaration_count» ≡ n) →
+    k ≡ record { nodes = k .nodes; «node_count» = k .«node_count»; declarations = ds; «declaration_count» = n; links = k .links; «link_count» = k .«link_count» }
+declarations-same k (e, f) = λ i. record { nodes = k .nodes; «node_count» = k .«node_count»; declarations = e i; «declaration_count» = f i; links = k .links; «link_count» = k .«link_count» }
+
+pub links-same :
+    (k : Kernel) {ls : List Link} {n : ℕ} → (k .links ≡ ls) × (k .«link_count» ≡ n) →
+    k ≡ record { nodes = k .nodes; «node_count» = k .«node_count»; declarations = k .declarations; «declaration_count» = k .«declaration_count»; links = ls; «link_count» = n }
+links-same k (e, f) = λ i. record { nodes = k .nodes; «node_count» = k .«node_count»; declarations = k .declarations; «declaration_count» = k .«declaration_count»; links = e i; «link_count» = f i }
 
 -- ---- the promise follows from the equation
 
@@ -87,16 +98,18 @@ answer-is k c {m} e h = subst (λ (x : Answer). Returns k c (record { kernel = m
 
 -- ---- a compaction, which reports how many went
 
-module _ (k : Kernel) (c : Command) where
-  pub compacts-damaged : {s : Bool} → s ≡ isSound k → s ≡ false → CompactionReturns k c (record { kernel = k; answer = Answer.Refused Error.Damaged; removed = 0 })
-  compacts-damaged e h = compaction-returned k c (sym (ap compactionOutcome (commanded-unsound sizes (layoutOf k) c (sym e ∙ h))))
+module _ (k : Kernel) (c : Command) {m : Kernel} {a : Answer} {n : ℕ} where
+  pub compacts-damaged : {s : Bool} → s ≡ isSound k → s ≡ false → a ≡ Answer.Refused Error.Damaged → k ≡ m → 0 ≡ n → CompactionReturns k c (record { kernel = m; answer = a; removed = n })
+  compacts-damaged e h w q r =
+      let b = sym w in
+      compaction-returned k c (sym (ap compactionOutcome (commanded-unsound sizes (layoutOf k) c (sym e ∙ h)) ∙ (λ i. record { kernel = q i; answer = b i; removed = r i })))
 
   pub compacts :
-      Accepted sizes (layoutOf k) c → (m : Kernel) → Leaves k c m → {n : ℕ} → removedCount (report (tablesOf (layoutOf k)) c) ≡ n →
-      CompactionReturns k c (record { kernel = m; answer = Answer.Done; removed = n })
-  compacts e m h r =
-      let a = report-done (tablesOf (layoutOf k)) c in
-      compaction-returned k c (sym (ap compactionOutcome e ∙ (λ i. record { kernel = kernelOf (h i); answer = a i; removed = r i })))
+      Accepted sizes (layoutOf k) c → a ≡ Answer.Done → Leaves k c m → removedCount (report (tablesOf (layoutOf k)) c) ≡ n →
+      CompactionReturns k c (record { kernel = m; answer = a; removed = n })
+  compacts e w h r =
+      let b = report-done (tablesOf (layoutOf k)) c ∙ sym w in
+      compaction-returned k c (sym (ap compactionOutcome e ∙ (λ i. record { kernel = kernelOf (h i); answer = b i; removed = r i })))
 
 -- ---- an insertion, which issues an identity
 

@@ -1,7 +1,9 @@
 -- The tables laid out again, one or two of them anew, the rest as it was.
-use Rattle.model.proofs.Logic.{Bool, List, [], _++_, _+_, _-_, _<_, _∙_, _∷_, _≡_, _≤_, ap, arith, drop, length, length-append, length-drop, length-map, length-set, map, replicate, set, sym, take, true, ℕ}
+use Rattle.model.proofs.Logic.{Bool, List, [], _++_, _+_, _-_, _<_, _∙_, _∷_, _≡_, _≤_, ap, append-assoc, arith, drop, drop-append-seam, length, length-append, length-drop, length-map, length-set, map, replicate, replicate-append-replicate, set, sym, take, true, ℕ}
 use Rattle.model.specs.{Layouts.Layout, Layouts.layOut, Layouts.tablesOf, Lists.keep, Lists.padded, Records.blankDeclaration, Records.blankLink, Records.blankNode, Records.isBlankLink, Sizes.Sizes, Tables.Tables, Tables.present, Tables.withDeclarations, Tables.withLinks, declared.records.Declaration.Declaration, declared.records.Link.Link, declared.records.Node.Node}
 use Rattle.layouts.proofs.{Laws.Sound.SoundKernel, Laws.Sound.declaration-count-is, Laws.Sound.declarations-laid, Laws.Sound.laid, Laws.Sound.link-count-is, Laws.Sound.links-laid, Laws.Sound.node-count-is, Laws.Sound.nodes-laid}
+use Rattle.loops.specs.{InPlace.compacted}
+use Rattle.loops.proofs.{Laws.InPlace.compacted-none, Laws.InPlace.kept-within}
 use Rattle.model.proofs.{Laws.Arrays.blank-rest, Laws.Arrays.set-padded, Laws.Arrays.snoc-padded, Laws.Arrays.take-padded, Laws.Blanks.blank-link, Laws.Lists.length-keep, Laws.Nodes.present-lt}
 
 -- ---- an array and its count hold a list
@@ -32,13 +34,50 @@ module _ {A : Type 0} {size : ℕ} {blank : A} {xs array : List A} {n : ℕ} (h 
   pub holds-padded : array ≡ padded size blank (take n array)
   holds-padded = sym (h .entries) ∙ ap (padded size blank) (sym read)
 
--- what was kept of a list is no more than it, and the rest went
-module _ {A : Type 0} {size : ℕ} {blank : A} (p : A → Bool) (xs : List A) {array : List A} {n : ℕ} (h : Holds size blank (keep p xs) array n) {m : ℕ} (l : length xs ≡ m) where
-  pub kept-fewer : n ≤ m
-  kept-fewer = let c = h .counted in omega (arith, length-keep p xs)
+  -- compacted: what passes of it
+  pub holds-kept : (p : A → Bool) → n ≤ size → Holds size blank (keep p xs) (compacted p blank n array) (length (keep p (take n array)))
+  unfolding compacted padded
+  holds-kept p l =
+      let ks = keep p xs in
+      let freed = length xs - length ks in
+      let c : length xs ≡ n = h .counted in
+      let past : drop n array ≡ replicate (size - n) blank = rw (← (h .entries), ← c) (drop-append-seam xs (replicate (size - length xs) blank)) in
+      let m : freed + (size - n) ≡ size - length ks = omega (arith, length-keep p xs) in
+      record {
+        entries = rw (read, past, ← m) (ap (ks ++_) (sym (replicate-append-replicate freed (size - n) blank)) ∙ sym (append-assoc ks (replicate freed blank) (replicate (size - n) blank)));
+        counted = rw read;
+      }
 
-  pub kept-gone : length xs - length (keep p xs) ≡ m - n
-  kept-gone = rw (l, h .counted)
+-- what was kept of a list is no more than it
+pub kept-fewer : {A : Type 0} {size : ℕ} {blank : A} (p : A → Bool) (xs : List A) {array : List A} {n : ℕ} → Holds size blank (keep p xs) array n → {m : ℕ} → length xs ≡ m → n ≤ m
+kept-fewer p xs h l = let c = h .counted in omega (arith, length-keep p xs)
+
+-- ---- an array of which the first `end` records were compacted, and n of them kept
+
+pub record Compacted {A : Type 0} (p : A → Bool) (blank : A) (end : ℕ) (array out : List A) (n : ℕ) : Type 0 where
+  pub entries : out ≡ compacted p blank end array
+  pub counted : n ≡ length (keep p (take end array))
+
+module _ {A : Type 0} {p : A → Bool} {blank : A} {end n : ℕ} {array out : List A} (c : Compacted p blank end array out n) where
+  pub kept-read : n ≤ end
+  kept-read = rw (c .counted) (kept-within p array end)
+
+  -- none was read: the array, its count and nothing gone
+  pub none-read : end ≡ 0 → (count : ℕ) → (array ≡ out) × (count ≡ count - (end - n)) × (0 ≡ end - n)
+  none-read e count =
+      let z = kept-read in
+      (sym (c .entries ∙ ap (λ (m : ℕ). compacted p blank m array) e ∙ compacted-none p blank array), omega arith, omega arith)
+
+  -- all below the count were read
+  module _ {size count : ℕ} {xs : List A} (h : Holds size blank xs array count) (l : count ≤ size) (e : end ≡ count) where
+    pub all-kept : Holds size blank (keep p xs) out n
+    all-kept = rw (c .entries, c .counted, e) (holds-kept h p l)
+
+    pub all-read : Holds size blank (keep p xs) out (count - (end - n))
+    all-read = let z = kept-read in record { entries = all-kept .entries; counted = all-kept .counted ∙ omega arith }
+
+    pub all-gone : length xs - length (keep p xs) ≡ end - n
+    all-gone = rw (h .counted, all-kept .counted, e)
 
 -- ---- a layout with one array anew, and its count
 

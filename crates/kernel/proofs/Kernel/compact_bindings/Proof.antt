@@ -1,41 +1,53 @@
--- `kernel::Kernel::compact_bindings` meets its contract.
-use Rattle.model.proofs.Logic.{List, [], ap, needs, not, take}
-use Rattle.model.specs.{Commands.Command, Layouts.tablesOf, declared.records.Link.Link}
-use Rattle.kernel.proofs.{Kernel.compact_bindings.Statement.statement, Laws.Edits.links-held, Laws.Outcomes.compacts, Laws.Outcomes.compacts-damaged, Laws.Lengths.sized}
+-- `kernel::Kernel::compact_bindings` meets its contract: it reads all links of a sound kernel, and none of another.
+use Rattle.model.proofs.Logic.{[], _≡_, _≤_, ap, arith, needs, not, true, ⊎-elim}
+use Rattle.model.specs.{Commands.Command, Layouts.tablesOf, Records.blankLink, Records.isLive}
+use Rattle.kernel.proofs.{Kernel.compact_bindings.Statement.statement, Laws.Edits.links-compacted, Laws.Outcomes.compacts, Laws.Outcomes.compacts-damaged, Laws.Outcomes.links-same, Laws.Lengths.sized}
 use Rattle.kernel.specs.{Fields.layoutOf}
-use Rattle.layouts.proofs.{Laws.Anew.kept-fewer, Laws.Anew.kept-gone, Laws.Anew.links-anew, Laws.Rows.accepted-by, Laws.Sound.SoundKernel, Laws.Sound.link-count-is, Laws.Sound.tested-sound}
+use Rattle.layouts.proofs.{Laws.Anew.Compacted, Laws.Anew.all-gone, Laws.Anew.all-read, Laws.Anew.kept-read, Laws.Anew.links-anew, Laws.Anew.links-held, Laws.Anew.none-read, Laws.Rows.accepted-by, Laws.Sound.SoundKernel, Laws.Sound.laid, Laws.Sound.tested-sound}
 use Rattle.model.proofs.{Laws.Refusals.of-passed}
 use Rattle.sizes.specs.{Sizes.sizes}
 use Rattle.kernel.proofs.Kernel.compact_bindings.Tie as tie
 
--- the kernel is sound, and its live links are kept
 module _ (f : tie.After-live-links) where
+  abbrev j : tie.Joined1
+  j = f .before
+
   abbrev s : tie.Start
-  s = f .before .before .before .before
+  s = j .before .before .before
 
-  K : SoundKernel sizes (layoutOf (s .args .self))
-  K = tested-sound (sized (s .args .self) (s .good .0, tt)) (f .before .before .before .sound .ensures) (ap not (f .before .before .if1 .taken))
+  read : Compacted isLive blankLink (j .if1 .end) (s .args .self .links) (f .live-links .result .links) (f .live-links .result .count)
+  read = links-compacted (f .live-links .ensures)
 
-  abbrev links : List Link
-  links = take (s .args .self .«link_count») (s .args .self .links)
+  within : j .if1 .end ≤ s .args .self .«link_count»
+  within = ⊎-elim (λ w. omega (arith, w .2)) (λ w. omega (arith, w .2)) (j .if1 .came)
 
-sub-removed : tie.Need-sub-removed
-unfolding tablesOf
-sub-removed c = let f = c .before in kept-fewer (λ l. l .live) (links f) (links-held (f .live-links .ensures)) (link-count-is (K f))
+  -- the kernel is sound
+  K : j .before .sound .result ≡ true → SoundKernel sizes (layoutOf (s .args .self))
+  K t = tested-sound (sized (s .args .self) (s .good .0, tt)) (j .before .sound .ensures) (ap not t)
+
+sub-self : tie.Need-sub-self
+sub-self c = let f = c .before .before .before in omega (arith, within f)
 
 returns : tie.Need-returns
 unfolding tablesOf
 returns c =
-    let f = c .before in
-    let kept = links-held (f .live-links .ensures) in
-    compacts (s f .args .self) Command.compactBindings (accepted-by (K f) Command.compactBindings (of-passed [] tt)) _ (links-anew (K f) _ kept) (kept-gone (λ l. l .live) (links f) kept (link-count-is (K f)))
-
-returns-2 : tie.Need-returns-2
-returns-2 c = compacts-damaged (c .before .before .args .self) Command.compactBindings (c .before .sound .ensures) (c .if1 .left)
+    let f = c .before .before .before in
+    let k = s f .args .self in
+    let m = Command.compactBindings in
+    ⊎-elim
+    (λ w.
+    let sound = K f (w .0 .taken) in
+    let held = links-held sound in
+    let fits = laid sound .links in
+    compacts k m (accepted-by sound m (of-passed [] tt)) (w .1) (links-anew sound _ (all-read (read f) held fits (w .2))) (all-gone (read f) held fits (w .2)))
+    (λ w.
+    let (ls, n, z) = none-read (read f) (w .2) (k .«link_count») in
+    compacts-damaged k m (j f .before .sound .ensures) (w .0 .left) (w .1) (links-same k (ls, n)) z)
+    (j f .if1 .came)
 
 pub compact-bindings-spec : {M : Type 1} → statement M
 compact-bindings-spec = tie.close (tie.spec
     (λ c κs. search needs) (λ c κs. search needs)  -- sound-requires, live-links-requires
-    sub-removed
-    returns
-    returns-2)
+    (λ c. kept-read (read (c .before .before .before)))  -- sub-removed
+    sub-self
+    returns)

@@ -1,9 +1,9 @@
 -- `kernel::Kernel::configure_pending_dependencies` meets its contract.
 use Rattle.model.proofs.Logic.{Bool, [], _++_, _+_, _∙_, _≡_, ap, arith, false, le-ltb, length, lt-ltb, ltb, needs, not, refl, sym}
 use Rattle.edits.specs.{declared.KeptDeclarations.KeptDeclarations}
-use Rattle.kernel.proofs.{Kernel.configure_pending_dependencies.Statement.statement, Laws.Edits.declarations-held, Laws.Outcomes.answer-is, Laws.Outcomes.hands-accepted, Laws.Outcomes.hands-refusal, Laws.Outcomes.hands-refused, Laws.Lengths.list-sized, Laws.Lengths.sized}
+use Rattle.kernel.proofs.{Kernel.configure_pending_dependencies.Statement.statement, Laws.Edits.declarations-compacted, Laws.Outcomes.answer-is, Laws.Outcomes.hands-accepted, Laws.Outcomes.hands-refusal, Laws.Outcomes.hands-refused, Laws.Lengths.list-sized, Laws.Lengths.sized}
 use Rattle.kernel.specs.{Fields.layoutOf}
-use Rattle.layouts.proofs.{Laws.Anew.HoldsDeclarations, Laws.Anew.holds-padded, Laws.Declarations.Configurable, Laws.Declarations.configurable, Laws.Declarations.configured-laid, Laws.Declarations.configured-sum, Laws.Declarations.remaining-within}
+use Rattle.layouts.proofs.{Laws.Anew.HoldsDeclarations, Laws.Anew.all-kept, Laws.Anew.declarations-held, Laws.Anew.holds-padded, Laws.Declarations.Configurable, Laws.Declarations.configurable, Laws.Declarations.configured-laid, Laws.Declarations.configured-sum, Laws.Declarations.remaining-within, Laws.Sound.laid}
 use Rattle.model.specs.{Commands.Command, Interface.configurableTests, Interface.distinct, Interface.listed, Interface.remaining, Layouts.tablesOf, Refusals.Tests, Refusals.first, Tables.Tables}
 use Rattle.model.proofs.{Laws.Refusals.of-passed, Laws.Refusals.passed-first, Laws.Refusals.skip, Laws.Refusals.stop}
 use Rattle.sizes.specs.{Sizes.DECLARATIONS, Sizes.sizes}
@@ -37,7 +37,7 @@ module _ (f : tie.After-kept-declarations) where
 
   rest : HoldsDeclarations sizes (remaining (T e) (s e .args .id)) (r .declarations) (r .count)
   unfolding tablesOf
-  rest = declarations-held (f .kept-declarations .ensures)
+  rest = let K = C e .kernel in all-kept (declarations-compacted (f .kept-declarations .ensures)) (declarations-held K) (laid K .declarations) refl
 
   full : {b : Bool} → ltb DECLARATIONS (r .count + s e .args .list .count) ≡ b → ltb DECLARATIONS (length (remaining (T e) (s e .args .id)) + length (listed (s e .args .list))) ≡ b
   full h = ap (ltb DECLARATIONS) (configured-sum (C e) rest) ∙ h

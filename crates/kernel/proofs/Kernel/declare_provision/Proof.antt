@@ -97,8 +97,8 @@ returns-5 c =
 pub declare-provision-spec : {M : Type 1} → statement M
 declare-provision-spec = tie.close (tie.spec
     (λ c κs. search needs) (λ c. search needs) (λ c κs. search needs) (λ c κs. search needs)  -- check-node-requires, enum-told, declares-in-requires, node-flags-requires
-    (λ c κs. search needs) (λ c κs. search needs) (λ c. search needs)  -- taken-in-requires, provision-requires, mul-declarations
-    (λ c. search needs) (λ c. search needs) (λ c. search needs)  -- array-set-from-declarations, add-self, enum-told-2
+    (λ c κs. search needs) (λ c κs. search needs) (λ c. search needs)  -- taken-in-requires, provision-requires, mul-more
+    (λ c. search needs) (λ c. search needs) (λ c. search needs)  -- array-set-from-more, add-self, enum-told-2
     returns
     returns-2
     returns-3
