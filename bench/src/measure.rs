@@ -32,6 +32,10 @@ pub fn run(lists: &[List], rounds: usize) -> Vec<[Times; 4]> {
     for round in 0..rounds {
         for sides in &mut samples {
             for (side, samples) in SIDES.iter().zip(sides) {
+                if samples.measured == 1 {
+                    // of a single command what the other sides left in the caches would be most of the time
+                    time(side, round, &samples.whole);
+                }
                 samples.with.push(time(side, round, &samples.whole));
                 samples.without.push(time(side, round, &samples.rest));
             }
