@@ -1,13 +1,13 @@
 -- `edits::kept_declarations` meets its contract. At each point of the scan the array is the scanned one, so that the laws of `InPlace` hold of it; then the freed places are blanked.
 use Rattle.model.proofs.Logic.{Bool, _-_, _∙_, _≡_, arith, getD, needs, sym, ⊎-elim}
-use Rattle.loops.proofs.{Laws.Compacting.Blanking, Laws.Compacting.Scanning, Laws.Compacting.Writes, Laws.Compacting.WritesNone, Laws.Compacting.blanking-next, Laws.Compacting.blanking-start, Laws.Compacting.compacting-done, Laws.Compacting.drop-writes, Laws.Compacting.scanning-drops, Laws.Compacting.scanning-moves, Laws.Compacting.scanning-start, Laws.Compacting.scanning-stays, Laws.Compacting.stay-writes, Laws.Compacting.store-writes}
+use Rattle.loops.proofs.{Laws.Compacting.Blanking, Laws.Compacting.Compacting, Laws.Compacting.Writes, Laws.Compacting.WritesNone, Laws.Compacting.blanking-next, Laws.Compacting.blanking-start, Laws.Compacting.compacting-done, Laws.Compacting.compacting-drops, Laws.Compacting.compacting-moves, Laws.Compacting.compacting-start, Laws.Compacting.compacting-stays, Laws.Compacting.drop-writes, Laws.Compacting.stay-writes, Laws.Compacting.store-writes}
 use Rattle.edits.specs.{Kept.keeping}
 use Rattle.model.specs.{Records.blankDeclaration, declared.records.Declaration.Declaration}
 use Rattle.edits.proofs.{kept_declarations.Statement.statement}
 use Rattle.edits.proofs.kept_declarations.Tie as tie
 
 abbrev Inv-loop : tie.InvT-loop
-Inv-loop count rule declarations₀ present end n₀ i₀ declarations n i = Scanning (keeping present rule) blankDeclaration declarations₀ end i declarations n
+Inv-loop count rule declarations₀ present end n₀ i₀ declarations n i = Compacting (keeping present rule) blankDeclaration declarations₀ end i declarations n
 
 abbrev μ-loop : tie.MeasureT-loop
 μ-loop count rule declarations₀ present end n₀ i₀ declarations n i = end - i
@@ -34,10 +34,10 @@ loop-again c =
     let h = t k .loop .inv in
     ⊎-elim
     (λ w. ⊎-elim
-    (λ v. scanning-moves h (omega arith) (passes k (w .0 .taken)) (v .0 .taken) (w .2 ∙ v .1) (w .3))
-    (λ v. scanning-stays h (omega arith) (passes k (w .0 .taken)) (v .0 .left) (w .2 ∙ v .1) (w .3))
+    (λ v. compacting-moves h (omega arith) (passes k (w .0 .taken)) (v .0 .taken) (w .2 ∙ v .1) (w .3))
+    (λ v. compacting-stays h (omega arith) (passes k (w .0 .taken)) (v .0 .left) (w .2 ∙ v .1) (w .3))
     (w .1 .came))
-    (λ w. scanning-drops h (omega arith) (passes k (w .0 .left)) (w .1) (w .2))
+    (λ w. compacting-drops h (omega arith) (passes k (w .0 .left)) (w .1) (w .2))
     (c .if1 .came)
 
 -- the code stores at one place of a turn, where the list of places written grows by n; on the two other ways it stays
@@ -59,7 +59,7 @@ returns c =
 pub kept-declarations-spec : {M : Type 1} → statement M
 kept-declarations-spec = tie.close (tie.spec Inv-loop μ-loop Inv-loop2 μ-loop2
     (λ c κs. search needs)  -- at-most-requires
-    (λ c. scanning-start)  -- loop-holds
+    (λ c. compacting-start)  -- loop-holds
     (λ c. omega arith) (λ c. omega arith) (λ c κs. search needs) (λ c. omega arith)  -- mul-d, array-copy-out-d, keeps-requires, mul-declarations
     (λ c. omega arith) (λ c. omega arith) (λ c. omega arith) (λ c. omega arith)  -- array-set-from-declarations, add-n, add-i, loop-less
     loop-again

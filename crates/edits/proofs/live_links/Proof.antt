@@ -1,12 +1,12 @@
 -- `edits::live_links` meets its contract. At each point of the scan the array is the scanned one, so that the laws of `InPlace` hold of it; then the freed places are blanked.
 use Rattle.model.proofs.Logic.{_-_, _∙_, arith, needs, ⊎-elim}
-use Rattle.loops.proofs.{Laws.Compacting.Blanking, Laws.Compacting.Scanning, Laws.Compacting.Writes, Laws.Compacting.WritesNone, Laws.Compacting.blanking-next, Laws.Compacting.blanking-start, Laws.Compacting.compacting-done, Laws.Compacting.drop-writes, Laws.Compacting.scanning-drops, Laws.Compacting.scanning-moves, Laws.Compacting.scanning-start, Laws.Compacting.scanning-stays, Laws.Compacting.stay-writes, Laws.Compacting.store-writes}
+use Rattle.loops.proofs.{Laws.Compacting.Blanking, Laws.Compacting.Compacting, Laws.Compacting.Writes, Laws.Compacting.WritesNone, Laws.Compacting.blanking-next, Laws.Compacting.blanking-start, Laws.Compacting.compacting-done, Laws.Compacting.compacting-drops, Laws.Compacting.compacting-moves, Laws.Compacting.compacting-start, Laws.Compacting.compacting-stays, Laws.Compacting.drop-writes, Laws.Compacting.stay-writes, Laws.Compacting.store-writes}
 use Rattle.model.specs.{Records.blankLink, Records.isLive}
 use Rattle.edits.proofs.{live_links.Statement.statement}
 use Rattle.edits.proofs.live_links.Tie as tie
 
 abbrev Inv-loop : tie.InvT-loop
-Inv-loop count links₀ end n₀ i₀ links n i = Scanning isLive blankLink links₀ end i links n
+Inv-loop count links₀ end n₀ i₀ links n i = Compacting isLive blankLink links₀ end i links n
 
 abbrev μ-loop : tie.MeasureT-loop
 μ-loop count links₀ end n₀ i₀ links n i = end - i
@@ -22,10 +22,10 @@ loop-again c =
     let h = c .before .before .before .loop .inv in
     ⊎-elim
     (λ w. ⊎-elim
-    (λ v. scanning-moves h (omega arith) (w .0 .taken) (v .0 .taken) (w .2 ∙ v .1) (w .3))
-    (λ v. scanning-stays h (omega arith) (w .0 .taken) (v .0 .left) (w .2 ∙ v .1) (w .3))
+    (λ v. compacting-moves h (omega arith) (w .0 .taken) (v .0 .taken) (w .2 ∙ v .1) (w .3))
+    (λ v. compacting-stays h (omega arith) (w .0 .taken) (v .0 .left) (w .2 ∙ v .1) (w .3))
     (w .1 .came))
-    (λ w. scanning-drops h (omega arith) (w .0 .left) (w .1) (w .2))
+    (λ w. compacting-drops h (omega arith) (w .0 .left) (w .1) (w .2))
     (c .if1 .came)
 
 -- the code stores at one place of a turn, where the list of places written grows by n; on the two other ways it stays
@@ -51,7 +51,7 @@ returns c =
 pub live-links-spec : {M : Type 1} → statement M
 live-links-spec = tie.close (tie.spec Inv-loop μ-loop Inv-loop2 μ-loop2
     (λ c κs. search needs)  -- at-most-requires
-    (λ c. scanning-start)  -- loop-holds
+    (λ c. compacting-start)  -- loop-holds
     (λ c. omega arith) (λ c. omega arith) (λ c. omega arith) (λ c. omega arith)  -- mul-l, array-copy-out-l, mul-links, array-set-from-links
     (λ c. omega arith) (λ c. omega arith) (λ c. omega arith)  -- add-n, add-i, loop-less
     loop-again

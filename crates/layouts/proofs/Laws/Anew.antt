@@ -1,9 +1,9 @@
 -- The tables laid out again, one or two of them anew, the rest as it was.
-use Rattle.model.proofs.Logic.{Bool, List, [], _++_, _+_, _-_, _<_, _∙_, _∷_, _≡_, _≤_, ap, append-assoc, arith, drop, drop-append-seam, length, length-append, length-drop, length-map, length-set, map, replicate, replicate-append-replicate, set, sym, take, true, ℕ}
+use Rattle.model.proofs.Logic.{Bool, List, [], _++_, _+_, _-_, _<_, _∙_, _∷_, _≡_, _≤_, ap, arith, drop, length, length-append, length-drop, length-map, length-set, map, replicate, set, sym, take, true, ℕ}
 use Rattle.model.specs.{Layouts.Layout, Layouts.layOut, Layouts.tablesOf, Lists.keep, Lists.padded, Records.blankDeclaration, Records.blankLink, Records.blankNode, Records.isBlankLink, Sizes.Sizes, Tables.Tables, Tables.present, Tables.withDeclarations, Tables.withLinks, declared.records.Declaration.Declaration, declared.records.Link.Link, declared.records.Node.Node}
 use Rattle.layouts.proofs.{Laws.Sound.SoundKernel, Laws.Sound.declaration-count-is, Laws.Sound.declarations-laid, Laws.Sound.laid, Laws.Sound.link-count-is, Laws.Sound.links-laid, Laws.Sound.node-count-is, Laws.Sound.nodes-laid}
 use Rattle.loops.specs.{InPlace.compacted}
-use Rattle.loops.proofs.{Laws.InPlace.compacted-none, Laws.InPlace.kept-within}
+use Rattle.loops.proofs.{Laws.InPlace.compacted-none, Laws.InPlace.compacted-padded, Laws.InPlace.kept-within}
 use Rattle.model.proofs.{Laws.Arrays.blank-rest, Laws.Arrays.set-padded, Laws.Arrays.snoc-padded, Laws.Arrays.take-padded, Laws.Blanks.blank-link, Laws.Lists.length-keep, Laws.Nodes.present-lt}
 
 -- ---- an array and its count hold a list
@@ -36,15 +36,10 @@ module _ {A : Type 0} {size : ℕ} {blank : A} {xs array : List A} {n : ℕ} (h 
 
   -- compacted: what passes of it
   pub holds-kept : (p : A → Bool) → n ≤ size → Holds size blank (keep p xs) (compacted p blank n array) (length (keep p (take n array)))
-  unfolding compacted padded
   holds-kept p l =
-      let ks = keep p xs in
-      let freed = length xs - length ks in
       let c : length xs ≡ n = h .counted in
-      let past : drop n array ≡ replicate (size - n) blank = rw (← (h .entries), ← c) (drop-append-seam xs (replicate (size - length xs) blank)) in
-      let m : freed + (size - n) ≡ size - length ks = omega (arith, length-keep p xs) in
       record {
-        entries = rw (read, past, ← m) (ap (ks ++_) (sym (replicate-append-replicate freed (size - n) blank)) ∙ sym (append-assoc ks (replicate freed blank) (replicate (size - n) blank)));
+        entries = rw (← (h .entries), ← c) (sym (compacted-padded p blank size xs (omega arith)));
         counted = rw read;
       }
 

@@ -5,15 +5,15 @@ use Rattle.loops.proofs.{Laws.InPlace.compacted-is, Laws.InPlace.kept-i
 use Rattle.loops.specs.{InPlace.Scan, InPlace.blanked, InPlace.compacted, InPlace.compaction, InPlace.moved, InPlace.scanned, InPlace.stayed, InPlace.turn, Limits.AtMost}
 
 -- the array is the scanned one at place i, and n is how many were kept: so what is a law of `scanned` holds of the array at each point of the loop
-pub record Scanning {A : Type 0} (p : A → Bool) (d : A) (xs : List A) (end i : ℕ) (out : List A) (n : ℕ) : Type 0 where
+pub record Compacting {A : Type 0} (p : A → Bool) (d : A) (xs : List A) (end i : ℕ) (out : List A) (n : ℕ) : Type 0 where
   pub holds : out ≡ scanned p d xs i .table
   pub counted : n ≡ scanned p d xs i .kept
   pub read : n ≤ i
   pub reached : i ≤ end
 
-pub scanning-start : {A : Type 0} {p : A → Bool} {d : A} {xs : List A} {end : ℕ} → Scanning p d xs end 0 xs 0
+pub compacting-start : {A : Type 0} {p : A → Bool} {d : A} {xs : List A} {end : ℕ} → Compacting p d xs end 0 xs 0
 unfolding scanned
-scanning-start = record { holds = refl; counted = refl; read = omega arith; reached = omega arith }
+compacting-start = record { holds = refl; counted = refl; read = omega arith; reached = omega arith }
 
 -- the turn at place i stores at place n, or stores nothing
 abbrev pub Writes : {A : Type 0} → (A → Bool) → A → List A → ℕ → ℕ → Type 0
@@ -22,7 +22,7 @@ Writes p d xs i n = scanned p d xs (i + 1) .written ≡ scanned p d xs i .writte
 abbrev pub WritesNone : {A : Type 0} → (A → Bool) → A → List A → ℕ → Type 0
 WritesNone p d xs i = scanned p d xs (i + 1) .written ≡ scanned p d xs i .written
 
-module _ {A : Type 0} {p : A → Bool} {d : A} {xs : List A} {end i n : ℕ} {out : List A} (h : Scanning p d xs end i out n) where
+module _ {A : Type 0} {p : A → Bool} {d : A} {xs : List A} {end i n : ℕ} {out : List A} (h : Compacting p d xs end i out n) where
   abbrev s : Scan A
   s = scanned p d xs i
 
@@ -40,17 +40,17 @@ module _ {A : Type 0} {p : A → Bool} {d : A} {xs : List A} {end i n : ℕ} {ou
   drops : p (getD out i d) ≡ false → scanned p d xs (i + 1) ≡ s
   drops t = next (turn-drops p d i s (rw (← h .holds) t))
 
-  scanning-next : {out′ : List A} {n′ : ℕ} (t : Scan A) → i < end → scanned p d xs (i + 1) ≡ t → out′ ≡ t .table → n′ ≡ t .kept → n′ ≤ n + 1 → Scanning p d xs end (i + 1) out′ n′
-  scanning-next t l e o c m = record { holds = o ∙ ap (λ (x : Scan A). x .table) (sym e); counted = c ∙ ap (λ (x : Scan A). x .kept) (sym e); read = omega (arith, h .read); reached = omega arith }
+  compacting-next : {out′ : List A} {n′ : ℕ} (t : Scan A) → i < end → scanned p d xs (i + 1) ≡ t → out′ ≡ t .table → n′ ≡ t .kept → n′ ≤ n + 1 → Compacting p d xs end (i + 1) out′ n′
+  compacting-next t l e o c m = record { holds = o ∙ ap (λ (x : Scan A). x .table) (sym e); counted = c ∙ ap (λ (x : Scan A). x .kept) (sym e); read = omega (arith, h .read); reached = omega arith }
 
-  pub scanning-moves : {out′ : List A} {n′ : ℕ} → i < end → p (getD out i d) ≡ true → n < i → out′ ≡ set out n (getD out i d) → n′ ≡ n + 1 → Scanning p d xs end (i + 1) out′ n′
-  scanning-moves l t m o c = scanning-next _ l (moves t m) (rw (← h .holds, ← h .counted) o) (rw (← h .counted) (c ∙ add-one n)) (omega arith)
+  pub compacting-moves : {out′ : List A} {n′ : ℕ} → i < end → p (getD out i d) ≡ true → n < i → out′ ≡ set out n (getD out i d) → n′ ≡ n + 1 → Compacting p d xs end (i + 1) out′ n′
+  compacting-moves l t m o c = compacting-next _ l (moves t m) (rw (← h .holds, ← h .counted) o) (rw (← h .counted) (c ∙ add-one n)) (omega arith)
 
-  pub scanning-stays : {out′ : List A} {n′ : ℕ} → i < end → p (getD out i d) ≡ true → i ≤ n → out′ ≡ out → n′ ≡ n + 1 → Scanning p d xs end (i + 1) out′ n′
-  scanning-stays l t m o c = scanning-next _ l (stays t m) (o ∙ h .holds) (rw (← h .counted) (c ∙ add-one n)) (omega arith)
+  pub compacting-stays : {out′ : List A} {n′ : ℕ} → i < end → p (getD out i d) ≡ true → i ≤ n → out′ ≡ out → n′ ≡ n + 1 → Compacting p d xs end (i + 1) out′ n′
+  compacting-stays l t m o c = compacting-next _ l (stays t m) (o ∙ h .holds) (rw (← h .counted) (c ∙ add-one n)) (omega arith)
 
-  pub scanning-drops : {out′ : List A} {n′ : ℕ} → i < end → p (getD out i d) ≡ false → out′ ≡ out → n′ ≡ n → Scanning p d xs end (i + 1) out′ n′
-  scanning-drops l t o c = scanning-next _ l (drops t) (o ∙ h .holds) (c ∙ h .counted) (omega arith)
+  pub compacting-drops : {out′ : List A} {n′ : ℕ} → i < end → p (getD out i d) ≡ false → out′ ≡ out → n′ ≡ n → Compacting p d xs end (i + 1) out′ n′
+  compacting-drops l t o c = compacting-next _ l (drops t) (o ∙ h .holds) (c ∙ h .counted) (omega arith)
 
   -- what each does to the list of places written
   pub store-writes : p (getD out i d) ≡ true → n < i → Writes p d xs i n
@@ -83,7 +83,7 @@ blanking-next {n = n} {j} h l e =
 -- both loops are over: the array and the count are those of the compaction
 module _ {A : Type 0} {p : A → Bool} {d : A} {xs t out : List A} {count size end i n j : ℕ} where
   pub compacting-done :
-      {R : Type 0} (make : List A → ℕ → R) → Scanning p d xs end i t n → end ≤ i → Blanking d t end n j out → end ≤ j → length xs ≡ size → AtMost count size end →
+      {R : Type 0} (make : List A → ℕ → R) → Compacting p d xs end i t n → end ≤ i → Blanking d t end n j out → end ≤ j → length xs ≡ size → AtMost count size end →
       make out n ≡ compaction p d make count xs
   unfolding compacted
   compacting-done make h l g m e a =

@@ -1,5 +1,5 @@
 -- Compaction within a table: what holds at each point of the scan, what is written and how often, and the table when freed places are blank. Over any record, test and blank.
-use Rattle.model.proofs.Logic.{Bool, List, [], _++_, _+_, _-_, _<_, _∙_, _↔_, _∷_, _≡_, _≤_, ap, append-assoc, append-nil, append-snoc, arith, cond, decLt, drop, drop-append-le, drop-append-seam, drop-cons, drop-drop, drop-of-length-le, false, getD, getD-append-add, getD-drop, le-ltb, length, length-append, length-drop, length-replicate, length-take, length-take-le, lt-ltb, min-le-left, refl, replicate, set, set-at, suc, sym, take, take-add, take-append-drop, take-append-seam, take-suc, true, zero, ℕ}
+use Rattle.model.proofs.Logic.{Bool, List, [], _++_, _+_, _-_, _<_, _∙_, _↔_, _∷_, _≡_, _≤_, ap, append-assoc, append-nil, append-snoc, arith, cond, decLt, drop, drop-append-le, drop-append-seam, drop-cons, drop-drop, drop-of-length-le, false, getD, getD-append-add, getD-drop, le-ltb, length, length-append, length-drop, length-replicate, length-take, length-take-le, lt-ltb, min-le-left, refl, replicate, replicate-append-replicate, set, set-at, suc, sym, take, take-add, take-append-drop, take-append-seam, take-suc, true, zero, ℕ}
 use Rattle.model.proofs.{Laws.Booleans.clash, Laws.Lists.keep-append, Laws.Lists.length-keep}
 use Rattle.model.specs.{Lists.keep, Lists.padded, Lists.places}
 use Rattle.loops.specs.{InPlace.Scan, InPlace.blanked, InPlace.compacted, InPlace.front, InPlace.interval, InPlace.moved, InPlace.scanned, InPlace.stayed, InPlace.turn}
@@ -238,23 +238,23 @@ module _ {A : Type 0} (p : A → Bool) (d : A) (xs : List A) where
       rw q (places-append p f (drop f (take i xs)) (x ∷ []) ∙ rw z (ap (λ (ks : List ℕ). behind i ++ ks) (places-one p i x b e)))
 
   -- up to the first dropped record nothing is written; past it each record kept is moved, and the places written are those from the first dropped one up to the first not filled
-  data Course (i : ℕ) (s : Scan A) : Type 0 where
-    ahead : i ≤ front p xs → s .kept ≡ i → s .table ≡ xs → s .sources ≡ [] → s .written ≡ [] → Course i s
-    past : front p xs < i → front p xs ≤ s .kept → s .kept < i → s .sources ≡ behind i → s .written ≡ interval (front p xs) (s .kept - front p xs) → Course i s
+  data Progress (i : ℕ) (s : Scan A) : Type 0 where
+    ahead : i ≤ front p xs → s .kept ≡ i → s .table ≡ xs → s .sources ≡ [] → s .written ≡ [] → Progress i s
+    past : front p xs < i → front p xs ≤ s .kept → s .kept < i → s .sources ≡ behind i → s .written ≡ interval (front p xs) (s .kept - front p xs) → Progress i s
 
-  course-next : (i : ℕ) (s : Scan A) → i < length xs → getD (s .table) i d ≡ getD xs i d → Course i s → Course (suc i) (turn p d i s)
+  progress-next : (i : ℕ) (s : Scan A) → i < length xs → getD (s .table) i d ≡ getD xs i d → Progress i s → Progress (suc i) (turn p d i s)
   unfolding interval
-  course-next i s l r w = go (p (getD xs i d)) refl w
+  progress-next i s l r w = go (p (getD xs i d)) refl w
     where
-      go : (b : Bool) → p (getD xs i d) ≡ b → Course i s → Course (suc i) (turn p d i s)
+      go : (b : Bool) → p (getD xs i d) ≡ b → Progress i s → Progress (suc i) (turn p d i s)
       go true t (ahead a k e f g) = rw (turn-stays p d i s (rw r t) (omega arith)) (other (decLt i (front p xs)))
         where
-          other : Dec (i < front p xs) → Course (suc i) (stayed s)
+          other : Dec (i < front p xs) → Progress (suc i) (stayed s)
           other (yes m) = ahead (omega arith) (omega arith) e f g
           other (no m) = let z : front p xs ≡ i = omega arith in clash (p (getD xs i d)) t (rw z at (front-stops p d xs (omega arith)))
       go false t (ahead a k e f g) = rw (turn-drops p d i s (rw r t)) (other (decLt i (front p xs)))
         where
-          other : Dec (i < front p xs) → Course (suc i) s
+          other : Dec (i < front p xs) → Progress (suc i) s
           other (yes m) = clash (p (getD xs i d)) (front-passes p d xs i m) t
           other (no m) =
               let z : s .kept - front p xs ≡ 0 = omega arith in
@@ -270,42 +270,42 @@ module _ {A : Type 0} (p : A → Bool) (d : A) (xs : List A) where
           let q : behind (suc i) ≡ behind i = behind-next i false (omega arith) l t ∙ append-nil (behind i) in
           rw (turn-drops p d i s (rw r t)) (past (omega arith) k (omega arith) (f ∙ sym q) g)
 
-  course : (i : ℕ) → i ≤ length xs → Course i (scanned p d xs i)
+  progress : (i : ℕ) → i ≤ length xs → Progress i (scanned p d xs i)
   unfolding scanned
-  course zero l = ahead (omega arith) refl refl refl refl
-  course (suc i) l = course-next i (scanned p d xs i) (omega arith) (read p d xs i (omega arith)) (course i (omega arith))
+  progress zero l = ahead (omega arith) refl refl refl refl
+  progress (suc i) l = progress-next i (scanned p d xs i) (omega arith) (read p d xs i (omega arith)) (progress i (omega arith))
 
   -- nothing is written up to the first dropped record
   pub untouched : (i : ℕ) → i ≤ front p xs → (scanned p d xs i .table ≡ xs) × (scanned p d xs i .written ≡ [])
-  untouched i l = go (course i (omega (arith, front-within p d xs)))
+  untouched i l = go (progress i (omega (arith, front-within p d xs)))
     where
-      go : Course i (scanned p d xs i) → (scanned p d xs i .table ≡ xs) × (scanned p d xs i .written ≡ [])
+      go : Progress i (scanned p d xs i) → (scanned p d xs i .table ≡ xs) × (scanned p d xs i .written ≡ [])
       go (ahead a k e f g) = (e, g)
       go (past a k m f g) = absurd (omega arith)
 
   -- fewer are kept than were read exactly where a record was dropped
   pub dropped-before : (i : ℕ) → i ≤ length xs → (scanned p d xs i .kept < i) ↔ (front p xs < i)
-  dropped-before i l = go (course i l)
+  dropped-before i l = go (progress i l)
     where
-      go : Course i (scanned p d xs i) → (scanned p d xs i .kept < i) ↔ (front p xs < i)
+      go : Progress i (scanned p d xs i) → (scanned p d xs i .kept < i) ↔ (front p xs < i)
       go (ahead a k e f g) = (λ m. absurd (omega arith), λ m. absurd (omega arith))
       go (past a k m f g) = (λ z. a, λ z. m)
 
   module _ (i : ℕ) (l : i ≤ length xs) where
     -- each kept record behind a dropped one is moved, once and in order, as it is read
     pub sources-are : scanned p d xs i .sources ≡ places p (front p xs) (drop (front p xs) (take i xs))
-    sources-are = go (course i l)
+    sources-are = go (progress i l)
       where
-        go : Course i (scanned p d xs i) → scanned p d xs i .sources ≡ behind i
+        go : Progress i (scanned p d xs i) → scanned p d xs i .sources ≡ behind i
         go (ahead a k e f g) = f ∙ sym (behind-none i a)
         go (past a k m f g) = f
 
     -- the places written are those from the first dropped record up to the first place not filled, each once
     pub written-are : scanned p d xs i .written ≡ interval (front p xs) (scanned p d xs i .kept - front p xs)
     unfolding interval
-    written-are = go (course i l)
+    written-are = go (progress i l)
       where
-        go : Course i (scanned p d xs i) → scanned p d xs i .written ≡ interval (front p xs) (scanned p d xs i .kept - front p xs)
+        go : Progress i (scanned p d xs i) → scanned p d xs i .written ≡ interval (front p xs) (scanned p d xs i .kept - front p xs)
         go (ahead a k e f g) = let z : scanned p d xs i .kept - front p xs ≡ 0 = omega arith in rw z g
         go (past a k m f g) = g
 
@@ -315,9 +315,9 @@ module _ {A : Type 0} (p : A → Bool) (d : A) (xs : List A) where
       where
         go : Dec (i < front p xs) → take (front p xs) (scanned p d xs i .table) ≡ take (front p xs) xs
         go (yes m) = ap (take (front p xs)) ((untouched i (omega arith)) .0)
-        go (no m) = whole (course (front p xs) (front-within p d xs))
+        go (no m) = whole (progress (front p xs) (front-within p d xs))
           where
-            whole : Course (front p xs) (scanned p d xs (front p xs)) → take (front p xs) (scanned p d xs i .table) ≡ take (front p xs) xs
+            whole : Progress (front p xs) (scanned p d xs (front p xs)) → take (front p xs) (scanned p d xs i .table) ≡ take (front p xs) xs
             whole (ahead a k e f g) = (rw k at (filled-stays p d xs (front p xs) i (omega arith) l)) ∙ ap (take (front p xs)) e
             whole (past a k m f g) = absurd (omega arith)
 
@@ -364,6 +364,17 @@ compacted-is p d xs c l =
     let j : c - s .kept ≡ length (take c xs) - length ks = omega (arith, length-take-le c xs l) in
     let b = blanked-is d (s .kept) (s .table) (c - s .kept) (omega (arith, length-scanned p d xs c l)) in
     b ∙ rw (n, filled p d xs c l, unread p d xs c l, j) (sym (append-assoc ks (replicate (length (take c xs) - length ks) d) (drop c xs)))
+
+-- where the table was blank past its records, it is those kept, then blanks
+pub compacted-padded : {A : Type 0} (p : A → Bool) (d : A) (size : ℕ) (ys : List A) → length ys ≤ size → compacted p d (length ys) (padded size d ys) ≡ padded size d (keep p ys)
+unfolding compacted padded
+compacted-padded p d size ys l =
+    let ks = keep p ys in
+    let freed = length ys - length ks in
+    let past = size - length ys in
+    let m : freed + past ≡ size - length ks = omega (arith, length-keep p ys) in
+    let e = append-assoc ks (replicate freed d) (replicate past d) ∙ ap (ks ++_) (replicate-append-replicate freed past d) in
+    rw (take-append-seam ys (replicate past d), drop-append-seam ys (replicate past d), ← m) e
 
 -- with no record below the count the table is as it was
 pub compacted-none : {A : Type 0} (p : A → Bool) (d : A) (xs : List A) → compacted p d 0 xs ≡ xs
