@@ -1,3 +1,4 @@
 pub mod Fields
 pub mod Outcomes
 pub mod Reached
+pub mod Ports

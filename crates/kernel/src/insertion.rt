@@ -86,8 +86,8 @@ impl Kernel {
         let offered = provisions.count;
         let declarations = self.declarations;
         let count = self.declaration_count;
-        let more = append_ports(declarations, count, id, dependencies, false);
-        let all = append_ports(more, count + wanted, id, provisions, true);
+        let more = append_ports(declarations, count, id, dependencies, wanted, false);
+        let all = append_ports(more, count + wanted, id, provisions, offered, true);
         self.declarations = all;
         self.declaration_count = count + wanted + offered;
         let mut nodes = self.nodes;

@@ -2,7 +2,8 @@
 ghost use mathlib.Core.Path.{_≡_};
 ghost use Rattle.kernel.specs.Outcomes.{Returns, answerOf};
 ghost use Rattle.model.specs.Commands.{Command};
-ghost use Rattle.model.specs.Interface.{configurableTests, releaseProvisionTests};
+ghost use Rattle.model.specs.Interface.{configurableTests, configureTests, releaseProvisionTests};
+ghost use Rattle.sizes.specs.Sizes.{sizes};
 use crate::Kernel;
 use crate::Outcome;
 use crate::ports::append_ports;
@@ -46,7 +47,7 @@ impl Kernel {
         }
     }
 
-    // release_provision: drops every provision of this owner and port. Where it refuses no declaration is read.
+    // release_provision: drops every provision of this owner and port.
     pub fn release_provision(mut self, id: usize, port: Port) -> Outcome
         ensures { λ r. ⌜ Returns self (Command.releaseProvision id port) r ⌝ }
     {
@@ -85,35 +86,51 @@ impl Kernel {
         Answer::Done
     }
 
-    // configure_pending_dependencies: replaces the dependencies of a component that has never begun. The table is made before its
-    // tests; behind them it would be copied once more.
+    // configure_pending_dependencies: replaces the dependencies of a component that has never begun. Where it refuses no declaration is read.
     pub fn configure_pending_dependencies(mut self, id: usize, list: PortList) -> Outcome
         ensures { λ r. ⌜ Returns self (Command.configurePendingDependencies id list) r ⌝ }
     {
-        let mut answer = self.check_configurable(id, list);
+        let answer = self.check_configure(id, list);
+        let declarations = self.declarations;
+        let count = self.declaration_count;
+        let mut end = 0;
+        let mut more = 0;
         if let Answer::Done = answer {
-            let declarations = self.declarations;
-            let count = self.declaration_count;
-            let unread = [false; IDENTITIES];
-            let rule = Rule::Configured(id);
-            let kept = edits::kept_declarations(declarations, count, unread, rule);
-            let rest = kept.declarations;
-            let n = kept.count;
-            let all = append_ports(rest, n, id, list, false);
-            let sum = n + list.count;
-            if DECLARATIONS < sum {
-                answer = Answer::Refused(Error::Capacity);
-            } else if !loops::distinct_ports(list) {
-                answer = Answer::Refused(Error::Conflict);
-            } else {
-                self.declarations = all;
-                self.declaration_count = sum;
-            }
+            end = count;
+            more = list.count;
         }
+        let unread = [false; IDENTITIES];
+        let rule = Rule::Configured(id);
+        let kept = edits::kept_declarations(declarations, end, unread, rule);
+        let rest = kept.declarations;
+        let n = kept.count;
+        let all = append_ports(rest, n, id, list, more, false);
+        self.declarations = all;
+        self.declaration_count = count - (end - n) + more;
         Outcome {
             kernel: self,
             answer: answer,
         }
+    }
+
+    // What configure_pending_dependencies answers.
+    fn check_configure(self, id: usize, list: PortList) -> Answer
+        ensures { λ r. ⌜ r ≡ answerOf self (λ T. configureTests sizes T id list) ⌝ }
+    {
+        let checked = self.check_configurable(id, list);
+        if let Answer::Refused(error) = checked {
+            return Answer::Refused(error);
+        }
+        let declarations = self.declarations;
+        let count = self.declaration_count;
+        let rest = scans::remaining_in(declarations, count, id);
+        if DECLARATIONS < rest + list.count {
+            return Answer::Refused(Error::Capacity);
+        }
+        if !loops::distinct_ports(list) {
+            return Answer::Refused(Error::Conflict);
+        }
+        Answer::Done
     }
 
     // What configure_pending_dependencies answers before it reads the declarations.

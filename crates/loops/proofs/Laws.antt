@@ -13,4 +13,5 @@ pub mod Parents
 pub mod Chains
 pub mod InPlace
 pub mod Compacting
+pub mod Counting
 pub mod Edit

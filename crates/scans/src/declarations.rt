@@ -1,10 +1,10 @@
 // What the interface commands and insertion ask of the declarations, the links and a port list.
 ghost use mathlib.Core.Path.{_≡_};
 ghost use mathlib.Core.Bool.{not, _&&_};
-ghost use lib.ListN.{take};
-ghost use Rattle.model.specs.Lists.{any};
+ghost use lib.ListN.{length, take};
+ghost use Rattle.model.specs.Lists.{any, keep};
 ghost use Rattle.model.specs.Soundness.{isDeclaration};
-ghost use Rattle.model.specs.Interface.{listed, distinct, reliesOn};
+ghost use Rattle.model.specs.Interface.{listed, distinct, reliesOn, remains};
 ghost use Rattle.model.specs.Resolution.{offers};
 ghost use Rattle.loops.specs.Columns.{flag};
 ghost use Rattle.sizes.specs.Sizes.{IDENTITIES};
@@ -126,4 +126,21 @@ pub fn check_provisions(
         i += 1;
     }
     ok
+}
+
+// How many declarations below the count are no dependencies of this owner.
+pub fn remaining_in(declarations: [Declaration; DECLARATIONS], count: usize, id: usize) -> usize
+    ensures { λ r. ⌜ r ≡ length (keep (remains id) (take count declarations)) ⌝ }
+{
+    let end = at_most(count, DECLARATIONS);
+    let mut n = 0;
+    let mut i = 0;
+    while i < end {
+        let d = declarations[i];
+        if !records::is_dependency_of(id, d) {
+            n += 1;
+        }
+        i += 1;
+    }
+    n
 }

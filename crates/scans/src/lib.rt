@@ -12,6 +12,7 @@ pub use columns::declaration_columns;
 pub use declarations::check_provisions;
 pub use declarations::declares_in;
 pub use declarations::relies_on;
+pub use declarations::remaining_in;
 pub use declarations::taken_in;
 pub use limits::flag_at;
 pub use nodes::child_flags;

@@ -4,7 +4,7 @@ use Rattle.model.specs.{Layouts.Layout, Layouts.layOut, Layouts.tablesOf, Lists
 use Rattle.layouts.proofs.{Laws.Sound.SoundKernel, Laws.Sound.declaration-count-is, Laws.Sound.declarations-laid, Laws.Sound.laid, Laws.Sound.link-count-is, Laws.Sound.links-laid, Laws.Sound.node-count-is, Laws.Sound.nodes-laid}
 use Rattle.loops.specs.{InPlace.compacted}
 use Rattle.loops.proofs.{Laws.InPlace.compacted-none, Laws.InPlace.compacted-padded, Laws.InPlace.kept-within}
-use Rattle.model.proofs.{Laws.Arrays.blank-rest, Laws.Arrays.set-padded, Laws.Arrays.snoc-padded, Laws.Arrays.take-padded, Laws.Blanks.blank-link, Laws.Lists.length-keep, Laws.Nodes.present-lt}
+use Rattle.model.proofs.{Laws.Arrays.blank-rest, Laws.Arrays.set-padded, Laws.Arrays.snoc-padded, Laws.Arrays.take-padded, Laws.Blanks.blank-link, Laws.Nodes.present-lt}
 
 -- ---- an array and its count hold a list
 
@@ -42,10 +42,6 @@ module _ {A : Type 0} {size : ℕ} {blank : A} {xs array : List A} {n : ℕ} (h 
         entries = rw (← (h .entries), ← c) (sym (compacted-padded p blank size xs (omega arith)));
         counted = rw read;
       }
-
--- what was kept of a list is no more than it
-pub kept-fewer : {A : Type 0} {size : ℕ} {blank : A} (p : A → Bool) (xs : List A) {array : List A} {n : ℕ} → Holds size blank (keep p xs) array n → {m : ℕ} → length xs ≡ m → n ≤ m
-kept-fewer p xs h l = let c = h .counted in omega (arith, length-keep p xs)
 
 -- ---- an array of which the first `end` records were compacted, and n of them kept
 

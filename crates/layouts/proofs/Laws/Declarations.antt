@@ -1,7 +1,7 @@
 -- Declarations of a sound kernel: what scans of its arrays find, and one list or record behind them.
 use Rattle.model.proofs.Logic.{Bool, List, [], _&&_, _++_, _+_, _<_, _||_, _∙_, _∷_, _≡_, _≤_, ap, append-assoc, arith, cond, false, getD, leb-false, length, length-map, length-take-le, lt-ltb, ltb-false, map, not, not-false, refl, set, sym, take, true, ℕ}
-use Rattle.model.specs.{Insertion.clashes, Insertion.insertTests, Insertion.inserted, Insertion.parentPresent, Insertion.parentRetired, Interface.configurableTests, Interface.dependenciesConfigured, Interface.distinct, Interface.listed, Interface.own, Interface.provisionDeclared, Interface.remaining, Interface.remains, Interface.taken, Interface.tooLong, Layouts.Layout, Layouts.Sized, Layouts.layOut, Layouts.tablesOf, Lists.any, Lists.padded, Records.blankDeclaration, Records.blankNode, Records.dependency, Records.newNode, Records.provision, Resolution.offers, Sizes.Sizes, Sizes.listLimit, Soundness.isDeclaration, Soundness.smaller, Tables.Tables, Tables.present, Tables.withDeclarations, declared.Answer.Answer, declared.Parent.Parent, declared.Port.Port, declared.PortList.PortList, declared.records.Declaration.Declaration, declared.records.Node.Node}
-use Rattle.layouts.proofs.{Laws.Anew.HoldsDeclarations, Laws.Anew.declarations-anew, Laws.Anew.declarations-held, Laws.Anew.declarationsTo, Laws.Anew.holds-more, Laws.Anew.holds-one, Laws.Anew.holds-padded, Laws.Anew.kept-fewer, Laws.Anew.laid-as, Laws.Anew.links-held, Laws.Anew.nodesTo, Laws.Rows.done-row, Laws.Rows.done-sound, Laws.Sound.SoundKernel, Laws.Sound.declaration-count-is, Laws.Sound.laid, Laws.Sound.node-count-is, Laws.Sound.node-is, Laws.Sound.nodes-flagged, Laws.Sound.nodes-laid, Laws.Sound.present-below}
+use Rattle.model.specs.{Insertion.clashes, Insertion.insertTests, Insertion.inserted, Insertion.parentPresent, Insertion.parentRetired, Interface.configurableTests, Interface.configureTests, Interface.dependenciesConfigured, Interface.distinct, Interface.listed, Interface.own, Interface.provisionDeclared, Interface.remaining, Interface.taken, Interface.tooLong, Layouts.Layout, Layouts.Sized, Layouts.layOut, Layouts.tablesOf, Lists.any, Lists.padded, Records.blankDeclaration, Records.blankNode, Records.dependency, Records.newNode, Records.provision, Resolution.offers, Sizes.Sizes, Sizes.listLimit, Soundness.isDeclaration, Soundness.smaller, Tables.Tables, Tables.present, Tables.withDeclarations, declared.Answer.Answer, declared.Parent.Parent, declared.Port.Port, declared.PortList.PortList, declared.records.Declaration.Declaration, declared.records.Node.Node}
+use Rattle.layouts.proofs.{Laws.Anew.HoldsDeclarations, Laws.Anew.declarations-anew, Laws.Anew.declarations-held, Laws.Anew.declarationsTo, Laws.Anew.holds-more, Laws.Anew.holds-one, Laws.Anew.holds-padded, Laws.Anew.laid-as, Laws.Anew.links-held, Laws.Anew.nodesTo, Laws.Rows.done-row, Laws.Rows.done-sound, Laws.Sound.SoundKernel, Laws.Sound.declaration-count-is, Laws.Sound.node-count-is, Laws.Sound.node-is, Laws.Sound.nodes-flagged, Laws.Sound.nodes-laid, Laws.Sound.present-below}
 use Rattle.layouts.specs.{Rows.rowAnswer}
 use Rattle.loops.specs.{Columns.flag}
 use Rattle.model.proofs.{Laws.Booleans.or-f-l, Laws.Booleans.or-f-r, Laws.Refusals.Passed, Theorems.Layouts.laid-out}
@@ -131,20 +131,29 @@ pub record Configurable (S : Sizes) (k : Layout) (id : ℕ) (l : PortList) : Typ
   pub short : Short l
   pub below : id < S .identities
 
+configurable-by : {S : Sizes} {k : Layout} → SoundKernel S k → (id : ℕ) {l : PortList} → length (l .ports) ≡ listLimit → Passed (configurableTests (tablesOf k) id l) → Configurable S k id l
+configurable-by K id {l} n passed = record {
+  kernel = K;
+  tests = passed;
+  short = record { array = n; within = ltb-false listLimit (l .count) (passed .0) };
+  below = present-below K id (not-false _ (passed .1 .0));
+}
+
 -- where they answered done
-pub configurable : {S : Sizes} {k : Layout} (z : Sized S k) (id : ℕ) {l : PortList} → length (l .ports) ≡ listLimit → {a : Answer} → a ≡ rowAnswer S k (λ T. configurableTests T id l) → a ≡ Answer.Done → Configurable S k id l
-configurable z id {l} n {a} e d =
-    let passed = done-row z (λ T. configurableTests T id l) a e d in
-    let K = done-sound z (λ T. configurableTests T id l) a e d in
-    record { kernel = K; tests = passed; short = record { array = n; within = ltb-false listLimit (l .count) (passed .0) }; below = present-below K id (not-false _ (passed .1 .0)) }
+pub configurable :
+    {S : Sizes} {k : Layout} (z : Sized S k) (id : ℕ) {l : PortList} → length (l .ports) ≡ listLimit → {a : Answer} → a ≡ rowAnswer S k (λ T. configurableTests T id l) → a ≡ Answer.Done →
+    Configurable S k id l
+configurable z id {l} n {a} e d = configurable-by (done-sound z (λ T. configurableTests T id l) a e d) id n (done-row z (λ T. configurableTests T id l) a e d)
+
+-- where no test of the whole row applies: the same, and the sum is within the size
+pub configured : {S : Sizes} {k : Layout} → SoundKernel S k → (id : ℕ) {l : PortList} → length (l .ports) ≡ listLimit → Passed (configureTests S (tablesOf k) id l) →
+    Configurable S k id l × (length (remaining (tablesOf k) id) + length (listed l) ≤ S .declarations)
+configured K id n p = (configurable-by K id n (p .0, (p .1 .0, (p .1 .1 .0, (p .1 .1 .1 .0, tt)))), ltb-false _ _ (p .1 .1 .1 .1 .0))
 
 module _ {S : Sizes} {k : Layout} {id : ℕ} {l : PortList} (C : Configurable S k id l) {array : List Declaration} {n : ℕ} (h : HoldsDeclarations S (remaining (tablesOf k) id) array n) where
   -- the sum that the row tests, by the counts
   pub configured-sum : length (remaining (tablesOf k) id) + length (listed l) ≡ n + l .count
   configured-sum = rw (h .counted, length-listed (C .short))
-
-  pub remaining-within : n ≤ S .declarations
-  remaining-within = omega (arith, kept-fewer (remains id) ((tablesOf k) .declarations) h (declaration-count-is (C .kernel)), laid (C .kernel) .declarations)
 
   pub configured-laid :
       {more : List Declaration} → more ≡ padded (S .declarations) blankDeclaration (take n array ++ map (dependency id) (listed l)) →

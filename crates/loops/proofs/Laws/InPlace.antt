@@ -32,7 +32,7 @@ module _ {A : Type 0} (p : A → Bool) (xs : List A) where
   unfolding keep
   keep-one x b e = rw e
 
-  kept-next : (i : ℕ) (d : A) (b : Bool) → i < length xs → p (getD xs i d) ≡ b → keep p (take (suc i) xs) ≡ keep p (take i xs) ++ cond b (getD xs i d ∷ []) []
+  pub kept-next : (i : ℕ) (d : A) (b : Bool) → i < length xs → p (getD xs i d) ≡ b → keep p (take (suc i) xs) ≡ keep p (take i xs) ++ cond b (getD xs i d ∷ []) []
   kept-next i d b l e = rw (take-suc xs i d l, keep-append p (take i xs) (getD xs i d ∷ []), keep-one (getD xs i d) b e)
 
 -- the state after i records, in closed form: those kept, and from the first place not filled on the table as it was

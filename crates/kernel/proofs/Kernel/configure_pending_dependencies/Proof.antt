@@ -1,102 +1,88 @@
--- `kernel::Kernel::configure_pending_dependencies` meets its contract.
-use Rattle.model.proofs.Logic.{Bool, [], _++_, _+_, _∙_, _≡_, ap, arith, false, le-ltb, length, lt-ltb, ltb, needs, not, refl, sym}
+-- `kernel::Kernel::configure_pending_dependencies` meets its contract: it reads all declarations where its row answered Done, and none where it refused.
+use Rattle.model.proofs.Logic.{_+_, _-_, _∙_, _≡_, _≤_, ap, arith, length, needs, subst, sym, ⊎-elim}
 use Rattle.edits.specs.{declared.KeptDeclarations.KeptDeclarations}
-use Rattle.kernel.proofs.{Kernel.configure_pending_dependencies.Statement.statement, Laws.Edits.declarations-compacted, Laws.Outcomes.answer-is, Laws.Outcomes.hands-accepted, Laws.Outcomes.hands-refusal, Laws.Outcomes.hands-refused, Laws.Lengths.list-sized, Laws.Lengths.sized}
-use Rattle.kernel.specs.{Fields.layoutOf}
-use Rattle.layouts.proofs.{Laws.Anew.HoldsDeclarations, Laws.Anew.all-kept, Laws.Anew.declarations-held, Laws.Anew.holds-padded, Laws.Declarations.Configurable, Laws.Declarations.configurable, Laws.Declarations.configured-laid, Laws.Declarations.configured-sum, Laws.Declarations.remaining-within, Laws.Sound.laid}
-use Rattle.model.specs.{Commands.Command, Interface.configurableTests, Interface.distinct, Interface.listed, Interface.remaining, Layouts.tablesOf, Refusals.Tests, Refusals.first, Tables.Tables}
-use Rattle.model.proofs.{Laws.Refusals.of-passed, Laws.Refusals.passed-first, Laws.Refusals.skip, Laws.Refusals.stop}
+use Rattle.kernel.proofs.{Kernel.configure_pending_dependencies.Statement.statement, Laws.Edits.declarations-compacted, Laws.Lengths.declaration-count-fits, Laws.Lengths.list-sized, Laws.Lengths.sized, Laws.Outcomes.Answered, Laws.Outcomes.declarations-same, Laws.Outcomes.done-as, Laws.Outcomes.done-kernel, Laws.Outcomes.done-tests, Laws.Outcomes.refused-as}
+use Rattle.kernel.specs.{Fields.layoutOf, Outcomes.Returns, declared.Kernel.Kernel}
+use Rattle.layouts.proofs.{Laws.Anew.Compacted, Laws.Anew.HoldsDeclarations, Laws.Anew.all-kept, Laws.Anew.declarations-held, Laws.Anew.declarationsTo, Laws.Anew.holds-padded, Laws.Anew.kept-read, Laws.Anew.none-read, Laws.Declarations.Configurable, Laws.Declarations.configured, Laws.Declarations.configured-laid, Laws.Declarations.configured-sum, Laws.Sound.SoundKernel, Laws.Sound.laid}
+use Rattle.model.specs.{Commands.Command, Interface.listed, Interface.remaining, Interface.remains, Layouts.tablesOf, Records.blankDeclaration, declared.Answer.Answer}
 use Rattle.sizes.specs.{Sizes.DECLARATIONS, Sizes.sizes}
 use Rattle.kernel.proofs.Kernel.configure_pending_dependencies.Tie as tie
 
-abbrev command : tie.Start → Command
-command s = Command.configurePendingDependencies (s .args .id) (s .args .list)
-
--- the list and the node passed
-module _ (d : tie.After-enum-told) where
-  abbrev s : tie.Start
-  s = d .before .before .before
-
-  abbrev T : Tables
-  T = tablesOf (layoutOf (s .args .self))
-
-  C : Configurable sizes (layoutOf (s .args .self)) (s .args .id) (s .args .list)
-  C = configurable (sized (s .args .self) (s .good .0, tt)) (s .args .id) (list-sized (s .args .list) (s .good .1 .1 .0, tt)) (d .before .before .check-configurable .ensures) (d .enum-told .given .1)
-
-  -- the rest of the row decides
-  left : (us : Tests) → first (configurableTests T (s .args .id) (s .args .list) ++ us) ≡ first us
-  left us = passed-first (configurableTests T (s .args .id) (s .args .list)) us (C .tests)
-
--- what remains
 module _ (f : tie.After-kept-declarations) where
-  abbrev e : tie.After-enum-told
-  e = f .before .before
+  abbrev j : tie.At-match-came
+  j = f .before
 
-  abbrev r : KeptDeclarations
-  r = f .kept-declarations .result
+  abbrev r : tie.After-check-configure
+  r = j .before .before
 
-  rest : HoldsDeclarations sizes (remaining (T e) (s e .args .id)) (r .declarations) (r .count)
-  unfolding tablesOf
-  rest = let K = C e .kernel in all-kept (declarations-compacted (f .kept-declarations .ensures)) (declarations-held K) (laid K .declarations) refl
+  abbrev s : tie.Start
+  s = r .before
 
-  full : {b : Bool} → ltb DECLARATIONS (r .count + s e .args .list .count) ≡ b → ltb DECLARATIONS (length (remaining (T e) (s e .args .id)) + length (listed (s e .args .list))) ≡ b
-  full h = ap (ltb DECLARATIONS) (configured-sum (C e) rest) ∙ h
+  abbrev command : Command
+  command = Command.configurePendingDependencies (s .args .id) (s .args .list)
 
--- the sum is within the size
-module _ (g : tie.After-distinct-ports) where
-  abbrev m : tie.After-append-ports
-  m = g .before .before .before
+  abbrev kept : KeptDeclarations
+  kept = f .kept-declarations .result
 
-  abbrev k : tie.After-kept-declarations
-  k = m .before .before
+  -- what its row answered
+  whole : Answered (s .args .self) command (r .check-configure .result)
+  whole = record { arrays = sized (s .args .self) (s .good .0, tt); row = r .check-configure .ensures }
 
-  repeats : {b : Bool} → not (g .distinct-ports .result) ≡ b → not (distinct (listed (s (e k) .args .list))) ≡ b
-  repeats h = ap not (sym (g .distinct-ports .ensures)) ∙ h
+  read : Compacted (remains (s .args .id)) blankDeclaration (j .match .end) (s .args .self .declarations) (kept .declarations) (kept .count)
+  read = declarations-compacted (f .kept-declarations .ensures)
 
-  fits : ltb DECLARATIONS (length (remaining (T (e k)) (s (e k) .args .id)) + length (listed (s (e k) .args .list))) ≡ false
-  fits = full k (le-ltb _ _ (g .before .if1 .left))
+  within : j .match .end ≤ s .args .self .«declaration_count»
+  within = ⊎-elim (λ w. omega (arith, w .2)) (λ w. omega (arith, w .2)) (j .match .came)
 
-append-ports-requires : tie.Need-append-ports-requires
-append-ports-requires c κs = let f = c .before in (C (e f) .below, C (e f) .short .within, remaining-within (C (e f)) (rest f), holds-padded (rest f))
+  -- Done: the list and what remains fit
+  module _ (done : r .check-configure .result ≡ Answer.Done) (all : j .match .end ≡ s .args .self .«declaration_count») where
+    K : SoundKernel sizes (layoutOf (s .args .self))
+    K = done-kernel whole done
 
--- over it
+    both : Configurable sizes (layoutOf (s .args .self)) (s .args .id) (s .args .list) × (length (remaining (tablesOf (layoutOf (s .args .self))) (s .args .id)) + length (listed (s .args .list)) ≤ DECLARATIONS)
+    both = configured K (s .args .id) (list-sized (s .args .list) (s .good .1 .1 .0, tt)) (done-tests whole done)
+
+    abbrev C : Configurable sizes (layoutOf (s .args .self)) (s .args .id) (s .args .list)
+    C = both .0
+
+    rest : HoldsDeclarations sizes (remaining (tablesOf (layoutOf (s .args .self))) (s .args .id)) (kept .declarations) (kept .count)
+    rest = all-kept read (declarations-held K) (laid K .declarations) all
+
+    fits : kept .count + s .args .list .count ≤ DECLARATIONS
+    fits = rw (configured-sum C rest) at (both .1)
+
+add-self : tie.Need-add-self
+add-self c =
+    let f = c .before .before .before in
+    ⊎-elim
+    (λ w. omega (arith, fits f (w .1 .given .1) (w .2), w .2, w .3, kept-read (read f)))
+    (λ w. omega (arith, w .2, w .3, kept-read (read f), declaration-count-fits (s f .args .self) (s f .good .0, tt)))
+    (j f .match .came)
+
 returns : tie.Need-returns
+unfolding tablesOf
 returns c =
-    let f = c .before .before .before .before in
-    let d = e f in
-    hands-refused (C d .kernel) (command (s d)) (left d _ ∙ stop _ _ _ (full f (lt-ltb _ _ (c .if1 .taken))))
-
--- a port twice
-returns-2 : tie.Need-returns-2
-returns-2 c =
     let g = c .before in
-    let d = e (k g) in
-    hands-refused (C d .kernel) (command (s d)) (left d _ ∙ skip _ _ _ (fits g) ∙ stop _ _ _ (repeats g (c .if2 .taken)))
-
-returns-3 : tie.Need-returns-3
-returns-3 c =
-    let g = c .before in
-    let d = e (k g) in
-    let row = left d _ ∙ skip _ _ _ (fits g) ∙ skip _ _ _ (repeats g (c .if2 .left)) ∙ of-passed [] tt in
-    let done = hands-accepted (C d .kernel) (command (s d)) row _ (configured-laid (C d) (rest (k g)) (m g .append-ports .ensures (g .before .if1 .left))) in
-    answer-is (s d .args .self) (command (s d)) (d .enum-told .given .1) done
-
--- the list or the node refused
-returns-4 : tie.Need-returns-4
-returns-4 c =
-    let a = c .before .before in
-    let s = a .before in
-    let r = c .enum-told2 .given .1 in
-    answer-is (s .args .self) (command s) r (hands-refusal (sized (s .args .self) (s .good .0, tt)) (command s) (λ T. configurableTests T (s .args .id) (s .args .list)) _ refl (a .check-configurable .ensures) r)
+    let f = g .before .before in
+    let k = s f .args .self in
+    ⊎-elim
+    (λ w.
+    let done = w .1 .given .1 in
+    let held = rest f done (w .2) in
+    let made = g .append-ports .ensures .1 (C f done (w .2) .below, rw (w .3) (C f done (w .2) .short .within), rw (w .3) (fits f done (w .2)), holds-padded held) in
+    let sum : kept f .count + s f .args .list .count ≡ k .«declaration_count» - (j f .match .end - kept f .count) + j f .match .more = omega (arith, w .2, w .3, kept-read (read f)) in
+    done-as (whole f) done _ (configured-laid (C f done (w .2)) held (rw (w .3) at made) ∙ ap (declarationsTo (layoutOf k) (g .append-ports .result)) sum))
+    (λ w.
+    let (ds, n, z) = none-read (read f) (w .2) (k .«declaration_count») in
+    let same = declarations-same k (ds ∙ sym (g .append-ports .ensures .0 (w .3)), omega (arith, n, w .3)) in
+    subst (λ (m : Kernel). Returns k (command f) (record { kernel = m; answer = r f .check-configure .result })) same (refused-as (whole f) (w .1 .given .1)))
+    (j f .match .came)
 
 pub configure-pending-dependencies-spec : {M : Type 1} → statement M
 configure-pending-dependencies-spec = tie.close (tie.spec
-    (λ c κs. search needs) (λ c. search needs) (λ c κs. search needs)  -- check-configurable-requires, enum-told, kept-declarations-requires
-    append-ports-requires
-    (λ c. let f = c .before .before .before in omega (arith, remaining-within (C (e f)) (rest f), C (e f) .short .within))  -- add-sum
-    (λ c κs. search needs)  -- distinct-ports-requires
-    (λ c. search needs)  -- enum-told-2
-    returns
-    returns-2
-    returns-3
-    returns-4)
+    (λ c κs. search needs) (λ c. search needs) (λ c. search needs) (λ c κs. search needs)  -- check-configure-requires, enum-told, enum-told-2, kept-declarations-requires
+    (λ c κs. search needs)  -- append-ports-requires
+    (λ c. kept-read (read (c .before .before .before)))  -- sub-self
+    (λ c. omega (arith, within (c .before .before .before)))  -- sub-self-2
+    add-self
+    returns)

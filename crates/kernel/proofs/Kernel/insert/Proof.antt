@@ -49,32 +49,27 @@ module _ (f : tie.After-append-ports) where
 returns : tie.Need-returns
 returns c = let a = c .before .before .before in insert-returned (k a) (command a) (sym (ap insertOutcome (refused-whole (z a) (command a) _ (answered a) (c .before .checked .given .1))))
 
-append-ports-requires : tie.Need-append-ports-requires
-unfolding tablesOf
-append-ports-requires c κs = let i = I (c .before) in (i .node, i .short .0 .within, omega (arith, i .sum), sym (declarations-laid (i .kernel)))
-
-append-ports-requires-2 : tie.Need-append-ports-requires-2
-append-ports-requires-2 c κs = let i = I (e c) in (i .node, i .short .1 .within, omega (arith, i .sum), more-padded (i .kernel) (i .short) _ (c .append-ports .ensures (omega (arith, i .sum))))
-
 returns-2 : tie.Need-returns-2
+unfolding tablesOf
 returns-2 c =
     let g = c .before .before in
     let f = g .before in
     let d = e f in
     let i = I d in
     let o = s (at d) .args in
+    let one = f .append-ports .ensures .1 (i .node, i .short .0 .within, omega (arith, i .sum), sym (declarations-laid (i .kernel))) in
+    let two = g .append-ports2 .ensures .1 (i .node, i .short .1 .within, i .sum, more-padded (i .kernel) (i .short) _ one) in
     let made = c .new-node .ensures ∙ ap newNode (stored-parent-is (o .parent) (i .parent)) in
-    let laid = inserted-laid (i .kernel) (i .short) _ (f .append-ports .ensures (omega (arith, i .sum))) (g .append-ports2 .ensures (i .sum)) refl (i .node) (o .parent) made in
+    let laid = inserted-laid (i .kernel) (i .short) _ one two refl (i .node) (o .parent) made in
     inserts (i .kernel) (o .parent) (o .dependencies) (o .provisions) (passed d) _ laid
 
 pub insert-spec : {M : Type 1} → statement M
 insert-spec = tie.close (tie.spec
     (λ c κs. search needs) (λ c. search needs)  -- check-insert-requires, enum-known-checked
     returns
-    (λ c. search needs)  -- enum-told
-    append-ports-requires
+    (λ c. search needs) (λ c κs. search needs)  -- enum-told, append-ports-requires
     (λ c. omega (arith, I (e c) .sum))  -- add-append-ports
-    append-ports-requires-2
+    (λ c κs. search needs)  -- append-ports-requires-2
     (λ c. omega (arith, I (e (c .before)) .sum))  -- add-self
     (λ c. omega (arith, I (e (c .before)) .sum))  -- add-self-2
     (λ c κs. search needs)  -- new-node-requires
