@@ -3,7 +3,12 @@ use super::kernel::{Error, Kernel, Port, PortList};
 use crate::log;
 
 /// Plays a log and writes each answer; how many there were.
-pub fn play(mut log: &[u8], answers: &mut [u8]) -> usize {
+pub fn play(log: &[u8], answers: &mut [u8]) -> usize {
+    play_then(log, answers, |_| ())
+}
+
+/// Plays a log, and hands the kernel that it leaves on.
+pub fn play_then(mut log: &[u8], answers: &mut [u8], then: impl FnOnce(Kernel)) -> usize {
     let mut kernel = Kernel::new();
     let (mut dependencies, mut provisions) = (PortList::new(), PortList::new());
     let mut answered = 0;
@@ -53,6 +58,7 @@ pub fn play(mut log: &[u8], answers: &mut [u8]) -> usize {
         answers[answered] = answer;
         answered += 1;
     }
+    then(kernel);
     answered
 }
 

@@ -3,4 +3,5 @@
 mod player;
 
 use plain as kernel;
-pub use player::play;
+#[allow(unused_imports)] // the program drains uses the second alone, the others the first
+pub use player::{play, play_then};

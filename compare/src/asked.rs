@@ -1,7 +1,8 @@
 //! What the observers are asked, as lines for the program `cases`, with lib.rs's answers.
+use crate::calls::Call;
 use crate::log::Port;
 use crate::record::{Lookup, Missing};
-use crate::reference::{self, Kernel};
+use crate::reference::{self, drained, Kernel};
 
 /// A line and its answer.
 pub type Asked = (String, String);
@@ -56,6 +57,17 @@ pub fn link_generation(id: usize, Port { key, realm }: Port, answer: Option<u64>
 /// resolve.
 pub fn resolve(Port { key, realm }: Port, answer: Lookup) -> Asked {
     (format!("resolve {key} {realm}"), found(answer))
+}
+
+/// drain, of this length, by the commands that lib.rs was drained with and its answers.
+pub fn drain(list: &[(Call, u8)], length: usize) -> Asked {
+    let steps: Vec<String> = list.iter().map(|&(call, _)| format!(", {}", drained::words(call))).collect();
+    let answer = match list.iter().find(|(_, answer)| *answer != 0) {
+        // a text that the program never prints
+        Some((call, answer)) => format!("lib.rs refuses {} with {answer}", drained::words(*call)),
+        None => format!("done, steps {length}{}", steps.concat()),
+    };
+    ("drain".to_string(), answer)
 }
 
 fn found(answer: Lookup) -> String {

@@ -8,6 +8,7 @@ mod asked;
 mod calls;
 mod cases;
 mod directed;
+mod drained_kernels;
 mod intended;
 mod log;
 mod lookups;
@@ -40,17 +41,29 @@ fn main() {
     };
     let program = Program { path: cases.into(), room: room.into() };
     let mut random = Random::new(seed);
+    // of its own, so that a kernel made unsound changes no later one
+    let mut damage = Random::new(!seed);
     let (mut lines, mut met) = (Vec::new(), Met::default());
     println!("seed {seed}");
     let directed = directed::all();
-    println!("{} kernels written by hand, {kernels} random ones", directed.len());
+    let drained = drained_kernels::all();
+    let (written, more) = (directed.len(), drained.len());
+    println!("{written} kernels written by hand, {more} more that are only drained, {kernels} random ones");
     for (name, tables) in directed {
         add(&name, &tables.0, &mut random, &mut lines, &mut met);
+        add_damaged(&tables.0, &mut damage, &mut lines, &mut met);
+        run_if(lines.len() > LINES, &program, &mut lines);
+    }
+    for (name, tables) in drained {
+        need_sound(&name, &tables.0);
+        session::drain(&tables.0, &mut lines, &mut met);
+        add_damaged(&tables.0, &mut damage, &mut lines, &mut met);
         run_if(lines.len() > LINES, &program, &mut lines);
     }
     for count in 0..kernels {
         let tables = random_tables::sample(&mut random);
         add(&format!("random kernel {count}"), &tables, &mut random, &mut lines, &mut met);
+        add_damaged(&tables, &mut damage, &mut lines, &mut met);
         run_if(lines.len() > LINES, &program, &mut lines);
     }
     run_if(true, &program, &mut lines);
@@ -60,11 +73,22 @@ fn main() {
 
 /// The lines of a kernel, which has to be sound.
 fn add(name: &str, tables: &Record, random: &mut Random, lines: &mut Vec<Line>, met: &mut Met) {
+    need_sound(name, tables);
+    session::play(tables, random, lines, met);
+}
+
+fn need_sound(name: &str, tables: &Record) {
     if !sound::sound(tables) {
         eprintln!("by_hand: not sound: {name}\n{}", text::tables(tables));
         std::process::exit(2);
     }
-    session::play(tables, random, lines, met);
+}
+
+/// The lines of a kernel made unsound.
+fn add_damaged(tables: &Record, random: &mut Random, lines: &mut Vec<Line>, met: &mut Met) {
+    if let Some(damaged) = drained_kernels::damaged(tables, random) {
+        session::damaged(&damaged, lines, met);
+    }
 }
 
 /// Runs the program on the lines; a difference ends the run.

@@ -1,4 +1,5 @@
-//! expected [--answers | --status] FILE...: what the log player must print for each log, by lib.rs's bodies.
+//! expected [--answers | --status | --stop] FILE...: what the log player, or with --stop the program `stop`, must print
+//! for each log, by lib.rs's bodies.
 // the modules have parts that only the other programs use
 #![allow(dead_code)]
 
@@ -12,14 +13,16 @@ mod status;
 mod text;
 
 use log::Next;
-use reference::Reference;
+use reference::{drained, Reference};
 
-/// The part that is printed: all, the commands' answers alone, or the components' status alone.
+/// The part that is printed: all, the commands' answers alone, the components' status alone, or the drain and the tables
+/// that it leaves.
 #[derive(Clone, Copy, PartialEq)]
 enum Part {
     All,
     Answers,
     Status,
+    Stop,
 }
 
 fn main() {
@@ -27,6 +30,7 @@ fn main() {
     let (part, files) = match words.split_first() {
         Some((word, files)) if word == "--answers" => (Part::Answers, files),
         Some((word, files)) if word == "--status" => (Part::Status, files),
+        Some((word, files)) if word == "--stop" => (Part::Stop, files),
         _ => (Part::All, words.as_slice()),
     };
     for file in files {
@@ -37,7 +41,11 @@ fn main() {
         if part == Part::All {
             println!("== {}", file.rsplit('/').next().unwrap_or(file));
         }
-        print(part, &log);
+        if part == Part::Stop {
+            stop(&log);
+        } else {
+            print(part, &log);
+        }
     }
 }
 
@@ -58,6 +66,15 @@ fn print(part: Part, log: &[u8]) {
     if part != Part::Answers {
         status::lines(reference.kernel()).iter().for_each(|line| println!("{line}"));
     }
+}
+
+/// A line for each command of the drain with lib.rs's answer, and the tables that they leave.
+fn stop(log: &[u8]) {
+    let (_, mut reference) = play(log);
+    for (call, answer) in reference.drain() {
+        println!("{} {answer}", drained::words(call));
+    }
+    println!("{}", text::tables(&reference.record(0, 0, None)));
 }
 
 /// A log's answers, and the kernel that it leaves.

@@ -1,5 +1,5 @@
 //! logs SEED DIR: writes the log files that the program `replay` plays. logs shift FILE: writes the sample shift. logs
-//! status DIR: writes those that the program `status` plays.
+//! status DIR, logs stop DIR: writes those that the programs `status` and `stop` play.
 // the modules have parts that only `run` uses
 #![allow(dead_code)]
 
@@ -14,6 +14,7 @@ mod script;
 mod sizes;
 mod status_logs;
 mod steps;
+mod stop_logs;
 
 use random::Random;
 
@@ -29,6 +30,9 @@ fn main() -> std::io::Result<()> {
     if first == "status" {
         return status_logs::all().iter().try_for_each(|(name, log)| std::fs::write(format!("{path}/{name}"), log));
     }
+    if first == "stop" {
+        return stop_logs::all().iter().try_for_each(|(name, log)| std::fs::write(format!("{path}/{name}"), log));
+    }
     let Ok(seed) = first.parse() else { usage() };
     let scenarios = scenarios::all().into_iter().map(|(_, log)| log);
     for (number, log) in scenarios.chain(random_logs(seed)).enumerate() {
@@ -39,7 +43,7 @@ fn main() -> std::io::Result<()> {
 }
 
 fn usage() -> ! {
-    eprintln!("use: logs SEED DIR | logs shift FILE | logs status DIR");
+    eprintln!("use: logs SEED DIR | logs shift FILE | logs status DIR | logs stop DIR");
     std::process::exit(2);
 }
 

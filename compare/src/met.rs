@@ -79,6 +79,9 @@ pub struct Met {
     pub questions: u64,
     pub tables: u64,
     pub lookups: Lookups,
+    pub damaged: u64,
+    /// Drains, their commands and the longest.
+    drains: [u64; 3],
     /// Commands and questions that name an identity that no kernel has.
     far: [u64; 2],
     kinds: [u64; KINDS.len()],
@@ -96,6 +99,12 @@ impl Met {
         for (count, (_, holds)) in self.kinds.iter_mut().zip(KINDS) {
             *count += u64::from(holds(tables, reference));
         }
+    }
+
+    /// A drain of this length.
+    pub fn drain(&mut self, length: usize) {
+        let [drains, commands, longest] = self.drains;
+        self.drains = [drains + 1, commands + length as u64, longest.max(length as u64)];
     }
 
     pub fn command(&mut self, call: Call, step: &Step, before: &Record, after: &Record) {
@@ -135,6 +144,11 @@ impl Met {
             self.last_begins[0], self.last_begins[1]
         );
         println!("begin done with a link of number 0: {}, of 2^64 - 1: {}", self.begun_links[0], self.begun_links[1]);
+        let [drains, commands, longest] = self.drains;
+        println!(
+            "{drains} drains of {commands} commands, the longest of {longest}; {} kernels that are not sound",
+            self.damaged
+        );
         self.lookups.print();
         println!("\n| kernels with | times |\n|---|---|");
         for (count, (name, _)) in self.kinds.iter().zip(KINDS) {

@@ -6,7 +6,7 @@ use crate::calls::Call;
 use crate::record::Record;
 
 /// A number for each of lib.rs's links, in order, dead ones too.
-#[derive(Default)]
+#[derive(Default, Clone)]
 pub struct Numbers(Vec<u64>);
 
 /// The generations of the providers that target gives, in its order; none without a target.

@@ -156,11 +156,11 @@ impl Bytes<'_> {
         Some(*front)
     }
 
-    fn u8(&mut self) -> Option<u8> {
+    pub fn u8(&mut self) -> Option<u8> {
         self.take::<1>().map(|b| b[0])
     }
 
-    fn u16(&mut self) -> Option<u16> {
+    pub fn u16(&mut self) -> Option<u16> {
         self.take().map(u16::from_le_bytes)
     }
 
@@ -168,7 +168,7 @@ impl Bytes<'_> {
         self.take().map(u64::from_le_bytes)
     }
 
-    fn optional(&mut self) -> Option<(u8, u64)> {
+    pub fn optional(&mut self) -> Option<(u8, u64)> {
         Some((self.u8()?, self.u64()?))
     }
 
@@ -268,9 +268,8 @@ impl Bytes<'_> {
         (observed.target.is_none() || observed.missing.is_none()).then_some(observed)
     }
 
-    /// The next record; none if the bytes are no record.
-    pub fn record(&mut self) -> Option<Record> {
-        let (answer, detail) = self.optional()?;
+    /// The three tables, with this answer and this detail.
+    pub fn tables(&mut self, answer: u8, detail: u64) -> Option<Record> {
         let (nodes, declarations, links) = (self.u16()?, self.u16()?, self.u16()?);
         Some(Record {
             answer,
@@ -278,11 +277,19 @@ impl Bytes<'_> {
             nodes: (0..nodes).map(|_| self.node()).collect::<Option<_>>()?,
             declarations: (0..declarations).map(|_| self.declaration()).collect::<Option<_>>()?,
             links: (0..links).map(|_| self.link()).collect::<Option<_>>()?,
-            observed: match self.u8()? {
-                0 => None,
-                1 => Some(self.observed()?),
-                _ => return None,
-            },
+            observed: None,
         })
+    }
+
+    /// The next record; none if the bytes are no record.
+    pub fn record(&mut self) -> Option<Record> {
+        let (answer, detail) = self.optional()?;
+        let tables = self.tables(answer, detail)?;
+        let observed = match self.u8()? {
+            0 => None,
+            1 => Some(self.observed()?),
+            _ => return None,
+        };
+        Some(Record { observed, ..tables })
     }
 }

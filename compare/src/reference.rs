@@ -8,6 +8,8 @@ use numbers::Numbers;
 include!(env!("ORIGINAL_RS"));
 
 // within this module, since it reads lib.rs's tables
+#[path = "drained.rs"]
+pub mod drained;
 #[path = "lookup.rs"]
 pub mod lookup;
 #[path = "numbers.rs"]
@@ -31,6 +33,7 @@ impl Clone for Kernel {
 }
 
 /// lib.rs's kernel, the numbers that its links must have, and the log player's two pending lists.
+#[derive(Clone)]
 pub struct Reference {
     kernel: Kernel,
     numbers: Numbers,
@@ -76,6 +79,11 @@ impl Reference {
     /// lib.rs's kernel, for its observers.
     pub fn kernel(&self) -> &Kernel {
         &self.kernel
+    }
+
+    /// Drains the kernel; the commands, each with lib.rs's answer.
+    pub fn drain(&mut self) -> drained::Drained {
+        drained::drain(&mut self.kernel)
     }
 
     /// Plays a log's command.
@@ -124,6 +132,11 @@ impl Reference {
             self.numbers.follow(call, &kernel);
         }
         step(own, detail, intended)
+    }
+
+    /// Whether lib.rs accepts a call that no fixed size refuses, which is made.
+    pub fn accepts(&mut self, call: Call) -> bool {
+        self.command(call).0 == 0
     }
 
     /// lib.rs's answer to a call, and its detail.

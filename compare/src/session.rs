@@ -6,7 +6,7 @@ use crate::log::Port;
 use crate::met::{Met, CHECK_INSERT, CHECK_ITERATION};
 use crate::random::Random;
 use crate::record::Record;
-use crate::reference::{self, lookup, Reference, Step};
+use crate::reference::{self, drained, lookup, Reference, Step};
 use crate::sound::sound;
 use crate::text;
 use crate::tried::{self, Trial};
@@ -25,6 +25,7 @@ pub fn play(start: &Record, random: &mut Random, lines: &mut Vec<Line>, met: &mu
     let (identities, ports) = (tried::identities(start, random), tried::ports(start, random));
     let (far, links) = (tried::far(&identities), tried::links(start, random));
     s.observe(&identities, &far, &ports, &links);
+    s.drain(start);
     for trial in tried::each(&identities, &far, &ports, random) {
         if s.trial(&trial, true) {
             s.set("back".to_string());
@@ -38,7 +39,46 @@ pub fn play(start: &Record, random: &mut Random, lines: &mut Vec<Line>, met: &mu
     s.tables();
 }
 
+/// Writes a kernel and drains it.
+pub fn drain(start: &Record, lines: &mut Vec<Line>, met: &mut Met) {
+    let mut s = Session { reference: Reference::of(start), lines, met };
+    s.met.kernel(start, &s.reference);
+    s.write(start);
+    s.drain(start);
+}
+
+/// Writes a kernel that is not sound: drain and stop refuse it.
+pub fn damaged(start: &Record, lines: &mut Vec<Line>, met: &mut Met) {
+    let mut s = Session { reference: Reference::new(), lines, met };
+    s.met.damaged += 1;
+    s.set("new".to_string());
+    text::tables(start).lines().for_each(|line| s.set(line.to_string()));
+    s.expect("sound".to_string(), "no".to_string());
+    s.expect("drain".to_string(), "refused 10, steps 0".to_string());
+    s.expect("stop".to_string(), "refused 10, commands 0, unchanged".to_string());
+}
+
 impl Session<'_> {
+    /// The drain and what stop hands back; then the drain's own commands, after which nothing is left to drain.
+    fn drain(&mut self, start: &Record) {
+        let (mut left, length) = (self.reference.clone(), drained::length(self.reference.kernel()));
+        let list = left.drain();
+        self.met.drain(length);
+        self.ask(None, vec![asked::drain(&list, length)]);
+        let changed = if left.record(0, 0, None) == *start { "unchanged" } else { "changed" };
+        self.expect("stop".to_string(), format!("done, commands {length}, {changed}"));
+        self.reference = left;
+        self.tables();
+        self.set("back".to_string());
+        self.reference = Reference::of(start);
+        for (call, _) in list {
+            self.trial(&Trial::without_lists(call), false);
+        }
+        self.ask(None, vec![asked::drain(&[], 0)]);
+        self.set("back".to_string());
+        self.reference = Reference::of(start);
+    }
+
     /// A line that writes the kernel or sets what later lines use.
     fn set(&mut self, text: String) {
         self.lines.push(Line { text, answer: None, commands: self.met.commands });

@@ -20,6 +20,13 @@ pub struct Trial {
     pub provisions: List,
 }
 
+impl Trial {
+    /// A command that takes no list.
+    pub fn without_lists(call: Call) -> Trial {
+        Trial { call, dependencies: List::default(), provisions: List::default() }
+    }
+}
+
 /// Ports as the program `cases` takes them: so many from a port on, each key further by a step.
 #[derive(Default)]
 pub struct List(Vec<(usize, Port, u64)>);
@@ -165,7 +172,7 @@ fn with_lists(call: Call, ports: &[Port], random: &mut Random) -> Trial {
     let (dependencies, provisions) = match call {
         Call::Insert(_) => (List::any(ports, random), List::any(ports, random)),
         Call::Configure(_) => (List::any(ports, random), List::default()),
-        _ => (List::default(), List::default()),
+        _ => return Trial::without_lists(call),
     };
     Trial { call, dependencies, provisions }
 }

@@ -1,6 +1,8 @@
 //! The rules in plain Rust: fixed tables with counts, the soundness test at entry in nested loops, and commands that take
 //! the kernel by value and hand it back with the answer.
 mod compaction;
+#[allow(dead_code)] // only the program drains calls it
+mod drain;
 mod insertion;
 mod interface;
 mod lifecycle;
@@ -8,4 +10,6 @@ mod records;
 mod resolution;
 mod soundness;
 
+#[allow(unused_imports)]
+pub use drain::{Drain, Step, StepCommand};
 pub use records::{Error, Kernel, Port, PortList};

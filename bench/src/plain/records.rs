@@ -71,6 +71,7 @@ pub struct PortList {
     pub count: usize,
 }
 
+#[derive(Clone)]
 pub struct Kernel {
     pub nodes: [Node; NODES],
     pub node_count: usize,

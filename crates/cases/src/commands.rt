@@ -1,6 +1,7 @@
-// The steps that hand back a kernel: the fourteen commands, and those that write it by hand.
+// The steps that hand back a kernel: the fourteen commands, stop, and those that write it by hand.
 use crate::state::State;
 use crate::state::written;
+use drain::Stopped;
 use kernel::CompactionOutcome;
 use kernel::InsertOutcome;
 use kernel::Kernel;
@@ -11,7 +12,7 @@ use text::made::parent_of;
 use text::made::port_of;
 use text::words::Line;
 
-// refusal: 0 is done; detail: the identity that insert issued, how many records a compaction removed.
+// refusal: 0 is done; detail: the identity that insert issued, how many records a compaction removed, how many commands stop took.
 pub struct Reply {
     pub kernel: Kernel,
     pub refusal: u8,
@@ -88,6 +89,16 @@ fn of_insertion(outcome: InsertOutcome) -> Reply {
     }
 }
 
+fn of_stop(stopped: Stopped) -> Reply {
+    let kernel = stopped.kernel;
+    let answer = stopped.answer;
+    Reply {
+        kernel: kernel,
+        refusal: records::answer_number(answer),
+        detail: stopped.commands as u64,
+    }
+}
+
 fn by_hand(kernel: Kernel) -> Reply {
     Reply {
         kernel: kernel,
@@ -116,6 +127,10 @@ pub fn reply_of(state: State, line: Line) -> Reply {
     }
     if line.name == 13 {
         return of_outcome(configured(state, line));
+    }
+    if line.name == 44 {
+        let kernel = state.kernel;
+        return of_stop(drain::stop(kernel));
     }
     by_hand(written(state, line))
 }

@@ -1,7 +1,11 @@
-// The checks and the observers, and the tables.
+// The checks and the observers, the tables, and the drain.
 use crate::state::State;
+use drain::Drain;
 use kernel::Kernel;
 use model::Answer;
+use model::Step;
+use model::StepCommand;
+use sizes::STEPS;
 use text::made::identity_of;
 use text::made::parent_of;
 use text::made::port_of;
@@ -48,6 +52,40 @@ fn tables(kernel: Kernel, out: &mut [u8], at: usize) -> usize {
     text::stored::tables(out, at, kernel)
 }
 
+fn is_leave(command: StepCommand) -> bool {
+    match command {
+        StepCommand::Leave => true,
+        StepCommand::BeginCleanup => false,
+        StepCommand::FinishCleanup => false,
+    }
+}
+
+// A comma and a step of a drain; past the count nothing of a blank one.
+fn drain_step(out: &mut [u8], at: usize, step: Step, counted: bool) -> usize {
+    let command = step.command;
+    if !counted & is_leave(command) & (step.id == 0) {
+        return at;
+    }
+    let at = text::bytes(out, at, b", ");
+    text::steps::step(out, at, step)
+}
+
+// A drain's answer, its count and its steps.
+fn drained(drain: Drain, out: &mut [u8], at: usize) -> usize {
+    let answer = drain.answer;
+    let steps = drain.steps;
+    let count = drain.count;
+    let at = text::answers::answer(out, at, records::answer_number(answer));
+    let at = text::bytes(out, at, b", steps");
+    let mut at = text::field(out, at, count as u64);
+    let mut i = 0;
+    while i < STEPS {
+        at = drain_step(out, at, steps[i], i < count);
+        i += 1;
+    }
+    at
+}
+
 // The generation in the live link of a consumer and a port.
 fn linked(kernel: Kernel, line: Line, out: &mut [u8], at: usize) -> usize {
     let port = port_of(line.second, line.third);
@@ -71,7 +109,8 @@ fn found(kernel: Kernel, line: Line, out: &mut [u8], at: usize) -> usize {
         39 => text::answers::target(out, at, kernel.target(id)),
         40 => text::answers::committed(out, at, kernel.committed(id)),
         41 => linked(kernel, line, out, at),
-        _ => tables(kernel, out, at),
+        42 => tables(kernel, out, at),
+        _ => drained(drain::drain(kernel), out, at),
     }
 }
 

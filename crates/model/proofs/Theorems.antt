@@ -15,6 +15,7 @@ pub mod Resolution
 pub mod Layouts
 pub mod Kernels
 pub mod Episodes
+pub mod Drain
 pub mod Agreement
 pub mod Samples
 pub mod Upstream

@@ -21,4 +21,5 @@ pub mod Episodes
 pub mod Space
 pub mod Layouts
 pub mod Kernels
+pub mod Drain
 pub mod Samples

@@ -150,6 +150,9 @@ liveLink id b g = linkOf id b g true
 abbrev pub deadFor : ℕ → Link → Link
 deadFor id l = linkOf (consumerIn l) (bindingIn l) (l .generation) (l .live && not (eqb (consumerIn l) id))
 
+abbrev pub deadLink : Link → Link
+deadLink l = linkOf (consumerIn l) (bindingIn l) (l .generation) false
+
 -- ---- nodes written anew
 
 abbrev pub withPhase : Phase → Node → Node

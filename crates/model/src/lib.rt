@@ -95,3 +95,16 @@ pub enum OptionGeneration {
     Some(u64),
     None,
 }
+
+// The commands that a drain is made of.
+pub enum StepCommand {
+    Leave,
+    BeginCleanup,
+    FinishCleanup,
+}
+
+// A step of a drain: a command, and the identity that it names.
+pub struct Step {
+    pub command: StepCommand,
+    pub id: usize,
+}

@@ -1,8 +1,9 @@
-// Logs of commands played on the kernel, and the two functions exported for Rust.
+// Logs of commands played on the kernel, and the functions exported for Rust: two here, those of drains beside.
 ghost use lib.ListN.{length};
 ghost use Prim.Native.Nat.{_≤_};
 
 mod commands;
+mod drains;
 mod log;
 mod observe;
 pub mod put;
@@ -11,6 +12,7 @@ mod tables;
 pub use commands::Player;
 pub use commands::play;
 pub use commands::start;
+pub use drains::play_drain;
 
 // Plays the log from the empty kernel; answers[i] is the i-th answer. Gives how many were written.
 #[no_mangle]

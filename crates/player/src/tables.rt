@@ -112,15 +112,22 @@ fn links(out: &mut [u8], at: usize, kernel: Kernel) -> usize
     at
 }
 
-pub fn all(out: &mut [u8], at: usize, player: Player) -> usize
+// The counts and the records below them.
+pub fn of(out: &mut [u8], at: usize, kernel: Kernel) -> usize
     ensures { λ r. ⌜ r ≤ length (now (out .entry)) ⌝ }
 {
-    let kernel = player.kernel;
-    let at = put::word(out, at, player.detail);
     let at = put::half(out, at, kernel.node_count);
     let at = put::half(out, at, kernel.declaration_count);
     let at = put::half(out, at, kernel.link_count);
     let at = nodes(out, at, kernel);
     let at = declarations(out, at, kernel);
     links(out, at, kernel)
+}
+
+pub fn all(out: &mut [u8], at: usize, player: Player) -> usize
+    ensures { λ r. ⌜ r ≤ length (now (out .entry)) ⌝ }
+{
+    let kernel = player.kernel;
+    let at = put::word(out, at, player.detail);
+    of(out, at, kernel)
 }

@@ -1,7 +1,7 @@
 // The stored records: read, made and tested for blanks here, so that how they are stored is said in one place. An identity takes one byte; only this file knows it.
 ghost use mathlib.Core.Path.{_≡_};
 ghost use mathlib.Core.Bool.{_&&_};
-ghost use Rattle.model.specs.Records.{bindingIn, blankDeclaration, blankLink, blankNode, byteBinding, byteOf, byteParent, consumerIn, deadFor, declarationOf, declaredPort, isBlankDeclaration, isBlankLink, isBlankNode, liveLink, newNode, ownerIn, parentIn, portIn, providerIn, provision, storedParent, withPhase};
+ghost use Rattle.model.specs.Records.{bindingIn, blankDeclaration, blankLink, blankNode, byteBinding, byteOf, byteParent, consumerIn, deadFor, deadLink, declarationOf, declaredPort, isBlankDeclaration, isBlankLink, isBlankNode, liveLink, newNode, ownerIn, parentIn, portIn, providerIn, provision, storedParent, withPhase};
 use model::Binding;
 use model::Declaration;
 use model::Link;
@@ -145,6 +145,14 @@ pub fn dead_for(consumer: usize, mut link: Link) -> Link
 {
     let own = consumer_in(link) == consumer;
     link.live = link.live & !own;
+    link
+}
+
+// The link, dead; it keeps its generation.
+pub fn dead_link(mut link: Link) -> Link
+    ensures { λ r. ⌜ r ≡ deadLink link ⌝ }
+{
+    link.live = false;
     link
 }
 

@@ -1,5 +1,6 @@
 // Tests on one parent, one node, one declaration or one link.
 ghost use mathlib.Core.Path.{_≡_};
+ghost use Rattle.model.specs.Drain.{isRestoring, mustLeave};
 ghost use Rattle.model.specs.Interface.{reliesOn};
 ghost use Rattle.model.specs.Records.{hasParent, isChildOf, isConsistent, isInstalled, isPending, isProviding, isServing, noParent};
 ghost use Rattle.model.specs.Resolution.{isDependencyOf, isLiveLinkOf};
@@ -73,6 +74,23 @@ pub fn is_serving(node: Node) -> bool
     let phase = node.phase;
     let inactive = crate::is_inactive(phase);
     node.present & !inactive & !node.restoring
+}
+
+// Present and Loading or Active: a drain makes it leave.
+pub fn must_leave(node: Node) -> bool
+    ensures { λ r. ⌜ r ≡ mustLeave node ⌝ }
+{
+    let phase = node.phase;
+    let running = crate::is_running(phase);
+    node.present & running
+}
+
+// Installed and restoring.
+pub fn is_restoring(node: Node) -> bool
+    ensures { λ r. ⌜ r ≡ isRestoring node ⌝ }
+{
+    let installed = is_installed(node);
+    installed & node.restoring
 }
 
 // Present and Active: resolve may find it.

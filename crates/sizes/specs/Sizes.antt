@@ -1,5 +1,5 @@
 -- How many nodes, declarations and links a kernel holds: the contracts' side of src/lib.rt.
-use Prim.Native.Nat.{ℕ}
+use Prim.Native.Nat.{_*_, ℕ}
 use Rattle.model.specs.Sizes.{Sizes, controller}
 
 abbrev pub sizes : Sizes
@@ -13,3 +13,7 @@ DECLARATIONS = sizes .declarations
 
 abbrev pub LINKS : ℕ
 LINKS = sizes .links
+
+-- the longest drain: three commands for each identity
+abbrev pub STEPS : ℕ
+STEPS = 3 * IDENTITIES

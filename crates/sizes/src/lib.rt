@@ -5,3 +5,6 @@ pub const IDENTITIES: usize = 64;
 pub const DECLARATIONS: usize = 256;
 
 pub const LINKS: usize = 512;
+
+// The longest drain: three commands for each identity.
+pub const STEPS: usize = 192;

@@ -5,8 +5,10 @@ ghost use mathlib.Core.Path.{_≡_};
 ghost use Prim.Native.Nat.{_≤_};
 
 pub mod answers;
+pub mod logs;
 pub mod made;
 pub mod status;
+pub mod steps;
 pub mod stored;
 pub mod words;
 

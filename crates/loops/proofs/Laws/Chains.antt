@@ -8,15 +8,15 @@ use Rattle.loops.specs.{Chains.BUCKETS, Chains.Chained, Chains.bucketOf,
 -- ---- the last entry of a bucket
 
 module _ (bucket : ℕ → ℕ) (b : ℕ) where
-  latest-here : (n : ℕ) → bucket n ≡ b → latest bucket b (suc n) ≡ suc n
+  pub latest-here : (n : ℕ) → bucket n ≡ b → latest bucket b (suc n) ≡ suc n
   unfolding latest
   latest-here n e = rw (eq-eqb (bucket n) b e)
 
-  latest-past : (n : ℕ) → (bucket n ≡ b → ⊥) → latest bucket b (suc n) ≡ latest bucket b n
+  pub latest-past : (n : ℕ) → (bucket n ≡ b → ⊥) → latest bucket b (suc n) ≡ latest bucket b n
   unfolding latest
   latest-past n e = rw (ne-eqb (bucket n) b e)
 
-  latest-le : (n : ℕ) → latest bucket b n ≤ n
+  pub latest-le : (n : ℕ) → latest bucket b n ≤ n
   unfolding latest
   latest-le zero = omega arith
   latest-le (suc n) = go (eqb (bucket n) b) (latest-le n)
@@ -26,7 +26,7 @@ module _ (bucket : ℕ → ℕ) (b : ℕ) where
       go false h = omega arith
 
   -- it is in the bucket
-  latest-at : (n i : ℕ) → latest bucket b n ≡ suc i → bucket i ≡ b
+  pub latest-at : (n i : ℕ) → latest bucket b n ≡ suc i → bucket i ≡ b
   unfolding latest
   latest-at zero i e = absurd (omega arith)
   latest-at (suc n) i e = go (eqb (bucket n) b) refl e (latest-at n i)

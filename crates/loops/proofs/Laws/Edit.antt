@@ -1,8 +1,8 @@
 -- An array that a loop writes: a function of each entry in its own place, and a function of each entry of a list behind what stands there.
-use Rattle.model.proofs.Logic.{List, [], _++_, _+_, _<_, _∙_, _∷_, _≡_, _≤_, add-one, ap, append-assoc, append-snoc, arith, drop, getD, getD-at, length, length-append, length-map, length-take-le, map, map-append, set, set-at, sym, take, take-suc, ℕ}
+use Rattle.model.proofs.Logic.{List, [], _++_, _+_, _<_, _∙_, _∷_, _≡_, _≤_, add-one, ap, append-assoc, append-nil, append-snoc, arith, drop, getD, getD-at, length, length-append, length-map, length-take-le, map, map-append, set, set-at, sym, take, take-all, take-suc, ℕ}
 use Rattle.model.proofs.{Laws.Arrays.snoc-padded}
 use Rattle.model.specs.{Lists.padded}
-use Rattle.loops.proofs.{Laws.Scan.drop-most, Laws.Scan.rest-next, Laws.Scan.take-most}
+use Rattle.loops.proofs.{Laws.Scan.drop-most, Laws.Scan.rest-done, Laws.Scan.rest-next, Laws.Scan.take-most}
 use Rattle.loops.specs.{Limits.AtMost}
 
 -- ---- a function of the first entries of a list, one more of them
@@ -36,6 +36,9 @@ module _ {A : Type 0} (f : A → A) (xs : List A) where
   -- up to a count that stops at the length
   pub edited-most : (count n end : ℕ) → length xs ≡ n → AtMost count n end → edited f end xs ≡ edited f count xs
   edited-most count n end e m = rw (take-most count n end xs e m, drop-most count n end xs e m)
+
+  pub edited-whole : (i : ℕ) → length xs ≤ i → edited f i xs ≡ map f xs
+  edited-whole i l = rw (take-all i xs l, rest-done i xs l) (append-nil (map f xs))
 
 -- ---- behind what stands there
 

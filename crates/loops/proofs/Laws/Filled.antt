@@ -81,6 +81,11 @@ map-blanks : {A B : Type 0} (f : A → B) (d : A) (n : ℕ) → map f (replicate
 map-blanks f d zero = refl
 map-blanks f d (suc n) = ap (λ (ys : List _). f d ∷ ys) (map-blanks f d n)
 
+-- of an array that is blank past its entries
+pub map-padded : {A B : Type 0} (f : A → B) (d : A) {b : B} → f d ≡ b → (n : ℕ) (xs : List A) → map f (padded n d xs) ≡ padded n b (map f xs)
+unfolding padded
+map-padded f d t n xs = map-append f xs (replicate (n - length xs) d) ∙ rw (length-map xs f, map-blanks f d (n - length xs), t)
+
 module _ {A B : Type 0} {f : A → B} {b : B} {n : ℕ} {xs : List A} {i : ℕ} {col : List B} (h : Begun f b n xs i col) (e : length xs ≡ n) where
   -- a store at the first place not written yet
   pub begun-next : (d : A) {v : B} → i < n → v ≡ f (getD xs i d) → Begun f b n xs (i + 1) (set col i v)
@@ -101,8 +106,4 @@ module _ {A B : Type 0} {f : A → B} {b : B} {n : ℕ} {xs : List A} {i : ℕ} 
 
   -- where the entries from there on are blank, the column is whole
   pub begun-whole : (d : A) → f d ≡ b → padded n d (take i xs) ≡ xs → col ≡ map f xs
-  unfolding padded
-  begun-whole d t w =
-      let ys = take i xs in
-      let g : map f (padded n d ys) ≡ padded n b (map f ys) = map-append f ys (replicate (n - length ys) d) ∙ rw (length-map ys f, map-blanks f d (n - length ys), t) in
-      h .holds ∙ sym g ∙ ap (map f) w
+  begun-whole d t w = h .holds ∙ sym (map-padded f d t n (take i xs)) ∙ ap (map f) w

@@ -5,7 +5,7 @@ use Rattle.model.proofs.{Laws.Arrays.getD-padded, Laws.Arrays.whole-array, Laws
 use Rattle.loops.specs.{Columns.flag}
 
 -- an identity's flag is its entry, and no past the last
-flag-entry : (size : ℕ) (fs : List Bool) → length fs ≡ size → (id : ℕ) → flag size fs id ≡ getD fs id false
+pub flag-entry : (size : ℕ) (fs : List Bool) → length fs ≡ size → (id : ℕ) → flag size fs id ≡ getD fs id false
 flag-entry size fs len id = go (decLt id size)
   where
     go : Dec (id < size) → ltb id size && getD fs id false ≡ getD fs id false

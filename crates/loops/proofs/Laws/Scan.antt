@@ -1,5 +1,5 @@
 -- What is left of a list: one more entry, and none; a count that stops at a size.
-use Rattle.model.proofs.Logic.{List, [], _+_, _<_, _∙_, _∷_, _≡_, _≤_, add-one, arith, decLt, drop, drop-cons, drop-of-length-le, getD, length, length-take, min-le-left, slice, slice-cons, sym, take, take-all, ℕ}
+use Rattle.model.proofs.Logic.{List, [], _+_, _<_, _∙_, _∷_, _≡_, _≤_, add-one, ap, arith, decLt, drop, drop-cons, drop-of-length-le, getD, length, length-take, length-take-le, min-le-left, slice, slice-cons, sym, take, take-all, ℕ}
 use Rattle.loops.specs.{Limits.AtMost}
 
 module _ {A : Type 0} where
@@ -24,6 +24,10 @@ module _ {A : Type 0} where
       go : Dec (end < count) → take end xs ≡ take count xs
       go (yes l) = take-all end xs (omega (arith, m .whole l)) ∙ sym (take-all count xs (omega (arith, m .whole l)))
       go (no l) = let f : end ≡ count = omega (arith, m .below) in rw f
+
+  -- so that is how many it takes
+  pub length-most : (count n end : ℕ) (xs : List A) → length xs ≡ n → AtMost count n end → length (take count xs) ≡ end
+  length-most count n end xs e m = ap length (sym (take-most count n end xs e m)) ∙ length-take-le end xs (omega (arith, m .within))
 
   -- and leaves as much
   pub drop-most : (count n end : ℕ) (xs : List A) → length xs ≡ n → AtMost count n end → drop end xs ≡ drop count xs

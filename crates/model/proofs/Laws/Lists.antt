@@ -1,5 +1,5 @@
 -- What the tests on lists say, by membership and by place.
-use Rattle.model.proofs.Logic.{Bool, List, List·Memᴰ, List·Memᴰ·cases-cons, List·Memᴰ·head, List·Memᴰ·not-nil, List·Memᴰ·tail, Option, [], _++_, _+_, _<_, _||_, _∷_, _≡_, _≤_, _⊎_, add-zero, ap, arith, cond, false, getD, length, map, none, refl, some, suc, sym, true, true≢false, zero, ℕ, ⊎-elim}
+use Rattle.model.proofs.Logic.{Bool, List, List·Memᴰ, List·Memᴰ·cases-cons, List·Memᴰ·head, List·Memᴰ·not-nil, List·Memᴰ·tail, Option, [], _++_, _+_, _<_, _||_, _∷_, _≡_, _≤_, _⊎_, add-zero, ap, arith, cond, false, getD, length, map, none, refl, set, some, suc, sym, true, true≢false, zero, ℕ, ⊎-elim}
 use Rattle.model.proofs.{Laws.Booleans.and-i, Laws.Booleans.and-l, Laws.Booleans.and-r, Laws.Booleans.clash, Laws.Booleans.or-f-l, Laws.Booleans.or-f-r}
 use Rattle.model.specs.{Lists.all, Lists.allAt, Lists.any, Lists.find, Lists.isNone, Lists.keep, Lists.onward, Points.Among, Points.At}
 
@@ -66,6 +66,17 @@ module _ {A : Type 0} where
       go : (b : Bool) → length (keep p xs) ≤ length xs → length (cond b (x ∷ keep p xs) (keep p xs)) ≤ length (x ∷ xs)
       go true h = omega arith
       go false h = omega arith
+
+  -- an entry passes no more
+  pub keep-less : (p : A → Bool) (d : A) (xs : List A) (k : ℕ) (y : A) → k < length xs → p (getD xs k d) ≡ true → p y ≡ false → length (keep p xs) ≡ suc (length (keep p (set xs k y)))
+  unfolding keep
+  keep-less p d [] k y l a b = absurd (omega arith)
+  keep-less p d (x ∷ xs) zero y l a b = rw (a, b)
+  keep-less p d (x ∷ xs) (suc k) y l a b = go (p x) (keep p xs) (keep p (set xs k y)) (keep-less p d xs k y (omega arith) a b)
+    where
+      go : (b : Bool) (ys zs : List A) → length ys ≡ suc (length zs) → length (cond b (x ∷ ys) ys) ≡ suc (length (cond b (x ∷ zs) zs))
+      go true ys zs e = omega arith
+      go false ys zs e = e
 
   pub all-keep : (q p : A → Bool) (xs : List A) → all p xs ≡ true → all p (keep q xs) ≡ true
   all-keep q p xs h = in-all p (keep q xs) (λ x m. all-in p ((in-keep q xs m) .0) h)

@@ -1,6 +1,6 @@
 -- The stored records: each is its fields, and what is stored is read back.
-use Rattle.model.proofs.Logic.{_<_, _≡_, arith, decLt, le-ltb, lt-ltb, refl, ℕ}
-use Rattle.model.specs.{Records.bindingIn, Records.byteOf, Records.consumerIn, Records.declaredPort, Records.givenParent, Records.ownerIn, Records.parentIn, Records.storedParent, declared.Binding.Binding, declared.Parent.Parent, declared.Port.Port, declared.records.Declaration.Declaration, declared.records.Link.Link, declared.records.Node.Node, declared.records.StoredParent.StoredParent}
+use Rattle.model.proofs.Logic.{Bool, _<_, _≡_, arith, decLt, le-ltb, lt-ltb, refl, ℕ}
+use Rattle.model.specs.{Records.bindingIn, Records.byteOf, Records.consumerIn, Records.declaredPort, Records.givenParent, Records.ownerIn, Records.parentIn, Records.storedParent, declared.Binding.Binding, declared.Parent.Parent, declared.Phase.Phase, declared.Port.Port, declared.records.Declaration.Declaration, declared.records.Link.Link, declared.records.Node.Node, declared.records.StoredParent.StoredParent}
 
 pub port-is : {p q : Port} → p .key ≡ q .key → p .realm ≡ q .realm → p ≡ q
 port-is k r = λ i. record { key = k i; realm = r i }
@@ -37,3 +37,10 @@ same-stored (StoredParent.Of p) (StoredParent.Of q) e = cc
 
 pub node-is : {m n : Node} → m .present ≡ n .present → m .retired ≡ n .retired → m .phase ≡ n .phase → m .restoring ≡ n .restoring → parentIn m ≡ parentIn n → m .generation ≡ n .generation → m ≡ n
 node-is {m} {n} a r f u p g = λ i. record { present = a i; retired = r i; phase = f i; restoring = u i; parent = same-stored (m .parent) (n .parent) p i; generation = g i }
+
+-- a node with these three fields anew, and that every node is one
+abbrev pub nodeWith : Bool → Phase → Bool → Node → Node
+nodeWith p f r n = record { present = p; retired = n .retired; phase = f; restoring = r; parent = n .parent; generation = n .generation }
+
+pub node-cases : (P : Node → Type 0) → ((p : Bool) (f : Phase) (r : Bool) (n : Node) → P (nodeWith p f r n)) → (n : Node) → P n
+node-cases P f n = f (n .present) (n .phase) (n .restoring) n

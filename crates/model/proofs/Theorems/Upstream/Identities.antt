@@ -42,7 +42,7 @@ ascending-from : (i : ℕ) (xs : List ℕ) → Ascending (suc i) xs → Ascendin
 ascending-from i [] h = tt
 ascending-from i (x ∷ xs) h = (omega (arith, h .0), h .1)
 
-places-ascend : {A : Type 0} (p : A → Bool) (k : ℕ) (xs : List A) → Ascending k (places p k xs)
+pub places-ascend : {A : Type 0} (p : A → Bool) (k : ℕ) (xs : List A) → Ascending k (places p k xs)
 unfolding places
 places-ascend p k [] = tt
 places-ascend p k (x ∷ xs) = go (p x) (places-ascend p (suc k) xs)

@@ -1,0 +1,2 @@
+-- The claim about sound kernels.
+pub mod Stops

@@ -1,0 +1,87 @@
+// A log's kernel stopped: plays the log, then the drain of the kernel that it leaves; a line for each command of the drain
+// with its answer, then the tables.
+use drain::Drain;
+use model::Step;
+use player::Player;
+use sizes::STEPS;
+use text::end;
+use text::field;
+use text::logs::ended;
+use text::logs::readable;
+use text::logs::say;
+use text::steps::step;
+
+// A command of the drain, and its answer.
+fn line(out: &mut [u8], at: usize, command: Step, answer: u8) -> usize {
+    let at = step(out, at, command);
+    let at = field(out, at, answer as u64);
+    end(out, at)
+}
+
+// A line for each step that was answered.
+fn lines(out: &mut [u8], drain: Drain, answers: &[u8], count: usize) -> usize {
+    let steps = drain.steps;
+    let last = loops::at_most(loops::at_most(count, answers.len()), STEPS);
+    let mut at = 0;
+    let mut i = 0;
+    while i < last {
+        at = line(out, at, steps[i], answers[i]);
+        i += 1;
+    }
+    at
+}
+
+// The drain of the player's kernel, played and written.
+fn drained(player: Player) {
+    let kernel = player.kernel;
+    let drain = drain::drain(kernel);
+    let mut answers = [0u8; STEPS];
+    let played = player::play_drain(player, drain, &mut answers);
+    let kernel = played.kernel;
+    let mut out = io::large_buffer();
+    let at = lines(&mut out, drain, &answers, played.answered);
+    let at = text::stored::tables(&mut out, at, kernel);
+    text::flush(&out, at);
+}
+
+// The first 65,536 bytes of what is open, as far as they can be read, played and drained.
+fn stop(fd: i32, name: &[u8]) {
+    let mut log = io::large_buffer();
+    let n = io::read_full(fd, &mut log);
+    let whole = readable(fd);
+    if !whole {
+        say(b"stop", name, b" cannot be read");
+    }
+    let mut answers = io::large_buffer();
+    let played = player::play(player::start(), &log[..n], &mut answers);
+    if ended(b"stop", name, &answers, played.answered) | !whole {
+        say(b"stop", name, b" is drained as far as it was played");
+    }
+    drained(played);
+}
+
+fn stop_file(name: &[u8]) {
+    let fd = os::open_read(name);
+    if fd < 0 {
+        say(b"stop", name, b" cannot be read");
+        say(b"stop", name, b" was not played, and nothing is drained");
+        return;
+    }
+    stop(fd, name);
+    libc::close(fd);
+}
+
+fn stop_argument(i: usize) {
+    let mut name = io::buffer();
+    let n = os::arg(i, &mut name);
+    stop_file(&name[..n]);
+}
+
+fn main() {
+    let count = os::arg_count();
+    let mut i = 1;
+    while i < count {
+        stop_argument(i);
+        i += 1;
+    }
+}
