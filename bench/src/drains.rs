@@ -108,7 +108,7 @@ fn row(setup: &Setup, rounds: usize) {
 
 /// Best and median of a drain: of a run less one that only plays the setup.
 fn measure(side: Measured, setup: &Script, steps: usize, rounds: usize) -> (f64, f64) {
-    let mut times = 16;
+    let mut times = 1;
     while times < MOST && run(side, setup, steps, times) < ENOUGH {
         times *= 2;
     }

@@ -40,54 +40,62 @@ fn main() {
         std::process::exit(2);
     };
     let program = Program { path: cases.into(), room: room.into() };
-    let mut random = Random::new(seed);
-    // of its own, so that a kernel made unsound changes no later one
-    let mut damage = Random::new(!seed);
-    let (mut lines, mut met) = (Vec::new(), Met::default());
+    let (random, damage, lines, met) = (Random::new(seed), Random::new(!seed), Vec::new(), Met::default());
+    let mut run = Run { program, random, damage, lines, met };
     println!("seed {seed}");
-    let directed = directed::all();
-    let drained = drained_kernels::all();
-    let (written, more) = (directed.len(), drained.len());
-    println!("{written} kernels written by hand, {more} more that are only drained, {kernels} random ones");
-    for (name, tables) in directed {
-        add(&name, &tables.0, &mut random, &mut lines, &mut met);
-        add_damaged(&tables.0, &mut damage, &mut lines, &mut met);
-        run_if(lines.len() > LINES, &program, &mut lines);
-    }
-    for (name, tables) in drained {
-        need_sound(&name, &tables.0);
-        session::drain(&tables.0, &mut lines, &mut met);
-        add_damaged(&tables.0, &mut damage, &mut lines, &mut met);
-        run_if(lines.len() > LINES, &program, &mut lines);
-    }
-    for count in 0..kernels {
-        let tables = random_tables::sample(&mut random);
-        add(&format!("random kernel {count}"), &tables, &mut random, &mut lines, &mut met);
-        add_damaged(&tables, &mut damage, &mut lines, &mut met);
-        run_if(lines.len() > LINES, &program, &mut lines);
-    }
-    run_if(true, &program, &mut lines);
-    met.print();
+    run.written(kernels);
+    run.random(kernels);
+    run_if(true, &run.program, &mut run.lines);
+    run.met.print();
     println!("no difference");
 }
 
-/// The lines of a kernel, which has to be sound.
-fn add(name: &str, tables: &Record, random: &mut Random, lines: &mut Vec<Line>, met: &mut Met) {
-    need_sound(name, tables);
-    session::play(tables, random, lines, met);
+/// What a run works with. `damage` is of its own, so that a kernel made unsound changes no later one.
+struct Run {
+    program: Program,
+    random: Random,
+    damage: Random,
+    lines: Vec<Line>,
+    met: Met,
+}
+
+impl Run {
+    /// The kernels written by hand, and those of them that are only drained.
+    fn written(&mut self, random: u64) {
+        let (directed, drained) = (directed::all(), drained_kernels::all());
+        let (written, more) = (directed.len(), drained.len());
+        println!("{written} kernels written by hand, {more} more that are only drained, {random} random ones");
+        directed.iter().for_each(|(name, tables)| self.kernel(name, &tables.0, false));
+        drained.iter().for_each(|(name, tables)| self.kernel(name, &tables.0, true));
+    }
+
+    fn random(&mut self, kernels: u64) {
+        for count in 0..kernels {
+            let tables = random_tables::sample(&mut self.random);
+            self.kernel(&format!("random kernel {count}"), &tables, false);
+        }
+    }
+
+    /// The lines of a kernel, which has to be sound, and of one that an edit makes unsound.
+    fn kernel(&mut self, name: &str, tables: &Record, only_drained: bool) {
+        need_sound(name, tables);
+        let (lines, met) = (&mut self.lines, &mut self.met);
+        if only_drained {
+            session::drain(tables, lines, met);
+        } else {
+            session::play(tables, &mut self.random, lines, met);
+        }
+        if let Some(damaged) = drained_kernels::damaged(tables, &mut self.damage) {
+            session::damaged(&damaged, lines, met);
+        }
+        run_if(self.lines.len() > LINES, &self.program, &mut self.lines);
+    }
 }
 
 fn need_sound(name: &str, tables: &Record) {
     if !sound::sound(tables) {
         eprintln!("by_hand: not sound: {name}\n{}", text::tables(tables));
         std::process::exit(2);
-    }
-}
-
-/// The lines of a kernel made unsound.
-fn add_damaged(tables: &Record, random: &mut Random, lines: &mut Vec<Line>, met: &mut Met) {
-    if let Some(damaged) = drained_kernels::damaged(tables, random) {
-        session::damaged(&damaged, lines, met);
     }
 }
 

@@ -257,7 +257,7 @@ module _ (waiting serving : List Bool) (ls : List Link) (id : ℕ) where
         go (inr t) h = rw t (h ∙ sym (mixed-same p n l (outside p n lp (eqb-false (chainOf serving ls n) id t))))
 
 -- c stands for the last link of the chain among some first ones; what each is relied upon, and the lowest that became free
-pub record Freeing (waiting serving : List Bool) (ls : List Link) (next relied : List ℕ) (id : ℕ) (now : List ℕ) (lowest c : ℕ) : Type 0 where
+pub record Freeing (waiting serving : List Bool) (ls : List Link) (relied : List ℕ) (id : ℕ) (now : List ℕ) (lowest c : ℕ) : Type 0 where
   pub left : ℕ
   pub within : left ≤ length ls
   pub here : c ≡ latest (chainOf serving ls) id left
@@ -298,7 +298,7 @@ module _ {waiting serving : List Bool} {ls : List Link} {provider first next rel
       rw (take-all (length ls) ls (omega arith), rest-done (length ls) ls (omega arith), keep) (omega (arith, u .counted p l))
 
   -- from the first of its chain
-  pub freeing-start : Freeing waiting serving ls next relied id relied (id + 1) (getD first id 0)
+  pub freeing-start : Freeing waiting serving ls relied id relied (id + 1) (getD first id 0)
   freeing-start =
       let s = u .chains .starts id lid in
       record {
@@ -311,7 +311,7 @@ module _ {waiting serving : List Bool} {ls : List Link} {provider first next rel
         none-below = λ j l z. z;
       }
 
-  module _ {now : List ℕ} {lowest c : ℕ} (h : Freeing waiting serving ls next relied id now lowest c) (z : 0 < c) where
+  module _ {now : List ℕ} {lowest c : ℕ} (h : Freeing waiting serving ls relied id now lowest c) (z : 0 < c) where
     is-next : c ≡ suc (c - 1)
     is-next = omega arith
 
@@ -360,7 +360,7 @@ module _ {waiting serving : List Bool} {ls : List Link} {provider first next rel
         (lowest′ : ℕ) →
         let p = getD provider (c - 1) 0 in
         let less = getD now p 0 - 1 in
-        Lower less p lowest lowest′ → Freeing waiting serving ls next relied id (set now p less) lowest′ (getD next (c - 1) 0)
+        Lower less p lowest lowest′ → Freeing waiting serving ls relied id (set now p less) lowest′ (getD next (c - 1) 0)
     freeing-next lowest′ (a, b) =
         record {
           left = c - 1;
@@ -401,7 +401,7 @@ module _ {waiting serving : List Bool} {ls : List Link} {provider first next rel
   unfolding keep
   ended p = omega arith
 
-  pub freeing-end : {now : List ℕ} {lowest c : ℕ} → Freeing waiting serving ls next relied id now lowest c → c ≤ 0 → Freed waiting ls relied now id lowest
+  pub freeing-end : {now : List ℕ} {lowest c : ℕ} → Freeing waiting serving ls relied id now lowest c → c ≤ 0 → Freed waiting ls relied now id lowest
   freeing-end {now} {lowest} {c} h z =
       let e : c ≡ 0 = omega arith in
       record { size = h .size ∙ u .relied-size; counted = λ p l. h .counted p l ∙ ap (mixed waiting serving ls id p) e ∙ ended p; next = h .low; none-below = h .none-below }

@@ -9,7 +9,7 @@ use Rattle.sizes.specs.{Sizes.IDENTITIES, Sizes.LINKS}
 -- whatever the columns were made of
 abbrev Inv-loop : tie.InvT-loop
 Inv-loop provider first next relied₀ id lowest₀ c₀ relied lowest c =
-    (waiting serving : List Bool) (ls : List Link) → Using waiting serving ls provider first next relied₀ id → Freeing waiting serving ls next relied₀ id relied lowest c
+    (waiting serving : List Bool) (ls : List Link) → Using waiting serving ls provider first next relied₀ id → Freeing waiting serving ls relied₀ id relied lowest c
 
 abbrev μ-loop : tie.MeasureT-loop
 μ-loop provider first next relied₀ id lowest₀ c₀ relied lowest c = c
@@ -27,7 +27,7 @@ module _ (n : tie.In-loop Inv-loop μ-loop) where
   abbrev start : tie.Start Inv-loop μ-loop
   start = n .before .before .before
 
-  walk : Freeing (start .pre .0) (start .pre .1) (start .pre .2) (start .args .next .now) (start .args .relied .now) (start .args .id) (n .before .loop .relied) (n .before .loop .lowest) (n .before .loop .c)
+  walk : Freeing (start .pre .0) (start .pre .1) (start .pre .2) (start .args .relied .now) (start .args .id) (n .before .loop .relied) (n .before .loop .lowest) (n .before .loop .c)
   walk = n .before .loop .inv (start .pre .0) (start .pre .1) (start .pre .2) (made-of start)
 
   within : n .before .loop .c ≤ LINKS

@@ -26,12 +26,6 @@ module _ (S : Sizes) where
   passing-append T [] rs p q = q
   passing-append T (s ∷ ss) rs p q = (p .0, passing-append (result T (commandOf s)) ss rs (p .1) q)
 
-  -- and the other way
-  pub passing-parts : (T : Tables) (ss rs : List Step) → Passing S T (ss ++ rs) → Passing S T ss × Passing S (results T ss) rs
-  unfolding results
-  passing-parts T [] rs p = (tt, p)
-  passing-parts T (s ∷ ss) rs p = let (a, b) = passing-parts (result T (commandOf s)) ss rs (p .1) in ((p .0, a), b)
-
   -- they are done in turn
   pub passing-in-turn : (T : Tables) (ss : List Step) → Passing S T ss → InTurn S T (commands ss)
   passing-in-turn T [] p = tt
