@@ -2,9 +2,10 @@
 use mathlib.Core.Path.{_≡_}
 use mathlib.Core.Bool.{false, true}
 use mathlib.Core.List.{List, [], map}
+use mathlib.Core.Logic.{_↔_}
 use mathlib.Core.Option.{none, some}
-use Prim.Native.Nat.{_*_, _+_, _≤_, ℕ}
-use lib.ListN.{length}
+use Prim.Native.Nat.{_*_, _+_, _<_, _≤_, ℕ}
+use lib.ListN.{getD, length}
 use Rattle.drain.specs.declared.steps.Drain.{Drain}
 use Rattle.drain.specs.declared.Stopped.{Stopped}
 use Rattle.drain.specs.declared.stopping.Flags.{Flags}
@@ -15,12 +16,13 @@ use Rattle.model.specs.declared.Error.{Error}
 use Rattle.model.specs.declared.Phase.{Phase}
 use Rattle.model.specs.declared.Step.{Step}
 use Rattle.model.specs.declared.records.Node.{Node}
-use Rattle.model.specs.Drain.{KernelInTurn, blankStep, commands, count, drain, isRestoring, mustLeave}
+use Rattle.model.specs.Drain.{KernelInTurn, blankStep, commands, count, drain, isRestoring, mustLeave, stopped}
 use Rattle.model.specs.Kernels.{kernelFrom}
-use Rattle.model.specs.Layouts.{Sized}
+use Rattle.model.specs.Layouts.{Sized, layOut, tablesOf}
 use Rattle.model.specs.Lists.{padded}
 use Rattle.model.specs.Observers.{cleanupStarted, contains, phase}
 use Rattle.model.specs.Records.{isServing}
+use Rattle.model.specs.Tables.{installed}
 use Rattle.sizes.specs.Sizes.{STEPS, sizes}
 
 -- no step of a kernel that is not sound
@@ -48,7 +50,12 @@ flagsOf ns = record { leaving = map mustLeave ns; restoring = map isRestoring ns
 pub record Stops (k : Kernel) : Type 0 where
   -- each command is done on the kernel that the earlier ones hand back
   pub in-turn : KernelInTurn sizes (layoutOf k) (commands (stepsOf k))
-  -- on the kernel that the last one hands back every present component is Inactive and none is restoring, and nothing is left to stop
+  -- no step stands twice, and there is none exactly if no component is installed
+  pub once : (i j : ℕ) → i < j → j < length (stepsOf k) → getD (stepsOf k) i blankStep ≡ getD (stepsOf k) j blankStep → ⊥
+  pub empty : (stepsOf k ≡ []) ↔ ((id : ℕ) → ask k false (λ T. installed (T .nodes) id) ≡ false)
+  -- what the last one hands back: every node Inactive, every link record dead, and nothing else changed
+  pub leaves : (stoppedOf k) .kernel ≡ kernelOf (layOut sizes (stopped (tablesOf (layoutOf k))))
+  -- on that kernel every present component is Inactive and none is restoring, and nothing is left to stop
   pub sound : isSound ((stoppedOf k) .kernel) ≡ true
   pub inactive : (id : ℕ) → ask ((stoppedOf k) .kernel) false (λ T. contains T id) ≡ true → ask ((stoppedOf k) .kernel) none (λ T. phase T id) ≡ some Phase.Inactive
   pub restored : (id : ℕ) → ask ((stoppedOf k) .kernel) false (λ T. cleanupStarted T id) ≡ false

@@ -7,6 +7,7 @@ use crate::put;
 use crate::tables;
 use drain::Drain;
 use kernel::Kernel;
+use model::Answer;
 use model::StepCommand;
 use sizes::STEPS;
 
@@ -62,14 +63,21 @@ pub fn play_drain(player: Player, drain: Drain, answers: &mut [u8]) -> Player
     play_first(player, &log, n, answers)
 }
 
+// An answer's number and a count.
+fn head(out: &mut [u8], at: usize, answer: Answer, count: usize) -> usize
+    ensures { λ r. ⌜ r ≤ length (now (out .entry)) ⌝ }
+{
+    let at = put::byte(out, at, records::answer_number(answer));
+    put::half(out, at, count)
+}
+
 // The answer, the count and all 192 steps, those past the count too: a command byte and an identity for each.
 fn steps(out: &mut [u8], at: usize, drain: Drain) -> usize
     ensures { λ r. ⌜ r ≤ length (now (out .entry)) ⌝ }
 {
     let answer = drain.answer;
     let steps = drain.steps;
-    let at = put::byte(out, at, records::answer_number(answer));
-    let mut at = put::half(out, at, drain.count);
+    let mut at = head(out, at, answer, drain.count);
     let mut i = 0;
     while i < STEPS {
         let step = steps[i];
@@ -88,8 +96,7 @@ fn stopped(out: &mut [u8], at: usize, kernel: Kernel) -> usize
     let stopped = drain::stop(kernel);
     let kernel = stopped.kernel;
     let answer = stopped.answer;
-    let at = put::byte(out, at, records::answer_number(answer));
-    let at = put::half(out, at, stopped.commands);
+    let at = head(out, at, answer, stopped.commands);
     tables::of(out, at, kernel)
 }
 
@@ -170,32 +177,38 @@ pub extern "C" fn nobrighi_drains(log: &[u8], asked: &[u8], out: &mut [u8]) -> u
     written
 }
 
-// Plays the log, then writes the drain of its kernel so many times; the counts added up. For measuring.
-#[no_mangle]
-pub extern "C" fn nobrighi_drain_times(log: &[u8], answers: &mut [u8], times: usize) -> usize {
-    let player = play(crate::commands::start(), log, answers);
-    let kernel = player.kernel;
-    let mut steps = 0;
-    let mut i = 0;
-    while i < times {
-        let drained = drain::drain(kernel);
-        steps = std::num::wrapping_add_usize(steps, drained.count);
-        i += 1;
+// What drain says of a kernel, or stop: the answer and the count.
+fn said(out: &mut [u8], kernel: Kernel, stopping: bool) -> usize
+    ensures { λ r. ⌜ r ≤ length (now (out .entry)) ⌝ }
+{
+    if stopping {
+        let stopped = drain::stop(kernel);
+        let answer = stopped.answer;
+        return head(out, 0, answer, stopped.commands);
     }
-    steps
+    let drain = drain::drain(kernel);
+    let answer = drain.answer;
+    head(out, 0, answer, drain.count)
 }
 
-// Plays the log, then stops its kernel so many times; the counts added up. For measuring.
+// Plays the log, its answers in out, then so many times writes what drain says of its kernel over their start, or where stopping is not 0 what stop says.
+// Gives how many bytes the last took. For measuring.
 #[no_mangle]
-pub extern "C" fn nobrighi_stop_times(log: &[u8], answers: &mut [u8], times: usize) -> usize {
-    let player = play(crate::commands::start(), log, answers);
+pub extern "C" fn nobrighi_drain_times(
+    log: &[u8],
+    stopping: usize,
+    times: usize,
+    out: &mut [u8],
+) -> usize
+    ensures { λ r. ⌜ r ≤ length (now (out .entry)) ⌝ }
+{
+    let player = play(crate::commands::start(), log, out);
     let kernel = player.kernel;
-    let mut steps = 0;
+    let mut written = 0;
     let mut i = 0;
     while i < times {
-        let stopped = drain::stop(kernel);
-        steps = std::num::wrapping_add_usize(steps, stopped.commands);
+        written = said(out, kernel, 0 < stopping);
         i += 1;
     }
-    steps
+    written
 }

@@ -6,13 +6,15 @@ use player::Player;
 use sizes::STEPS;
 use text::end;
 use text::field;
-use text::logs::ended;
-use text::logs::readable;
-use text::logs::say;
+use text::logs::early;
+use text::logs::last_answer;
+use text::logs::line;
+use text::logs::line_if;
+use text::logs::warn;
 use text::steps::step;
 
 // A command of the drain, and its answer.
-fn line(out: &mut [u8], at: usize, command: Step, answer: u8) -> usize {
+fn answered(out: &mut [u8], at: usize, command: Step, answer: u8) -> usize {
     let at = step(out, at, command);
     let at = field(out, at, answer as u64);
     end(out, at)
@@ -25,7 +27,7 @@ fn lines(out: &mut [u8], drain: Drain, answers: &[u8], count: usize) -> usize {
     let mut at = 0;
     let mut i = 0;
     while i < last {
-        at = line(out, at, steps[i], answers[i]);
+        at = answered(out, at, steps[i], answers[i]);
         i += 1;
     }
     at
@@ -44,27 +46,48 @@ fn drained(player: Player) {
     text::flush(&out, at);
 }
 
+// What is to say of a log that could not be read whole or that an answer ended.
+fn tell(name: &[u8], whole: bool, answer: u8) {
+    let mut said = io::large_buffer();
+    let at = line_if(&mut said, 0, !whole, b"stop", name, b" cannot be read");
+    let at = early(&mut said, at, b"stop", name, answer);
+    let at = line_if(
+        &mut said,
+        at,
+        0 < at,
+        b"stop",
+        name,
+        b" is drained as far as it was played",
+    );
+    warn(&said, at);
+}
+
 // The first 65,536 bytes of what is open, as far as they can be read, played and drained.
 fn stop(fd: i32, name: &[u8]) {
     let mut log = io::large_buffer();
     let n = io::read_full(fd, &mut log);
-    let whole = readable(fd);
-    if !whole {
-        say(b"stop", name, b" cannot be read");
-    }
+    let mut more = [0u8; 1];
+    let whole = 0 <= libc::read(fd, &mut more);
     let mut answers = io::large_buffer();
     let played = player::play(player::start(), &log[..n], &mut answers);
-    if ended(b"stop", name, &answers, played.answered) | !whole {
-        say(b"stop", name, b" is drained as far as it was played");
-    }
+    tell(name, whole, last_answer(&answers, played.answered));
     drained(played);
 }
 
+// Of a file that cannot be opened nothing is played.
 fn stop_file(name: &[u8]) {
     let fd = os::open_read(name);
     if fd < 0 {
-        say(b"stop", name, b" cannot be read");
-        say(b"stop", name, b" was not played, and nothing is drained");
+        let mut said = io::large_buffer();
+        let at = line(&mut said, 0, b"stop", name, b" cannot be read");
+        let at = line(
+            &mut said,
+            at,
+            b"stop",
+            name,
+            b" was not played, and nothing is drained",
+        );
+        warn(&said, at);
         return;
     }
     stop(fd, name);

@@ -1,2 +1,3 @@
+pub mod Logs
 pub mod Made
 pub mod Words

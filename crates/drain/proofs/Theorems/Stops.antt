@@ -1,9 +1,9 @@
 -- Every sound kernel stops: the drain's commands are done in turn, then every present component is Inactive, and how many they are.
-use Rattle.model.proofs.Logic.{Bool, List, [], _&&_, _∙_, _≡_, _≤_, and-false, ap, cond, false, length, none, some, subst, sym, true, ℕ}
+use Rattle.model.proofs.Logic.{Bool, List, [], _&&_, _<_, _↔_, _∙_, _≡_, _≤_, and-false, ap, cond, false, getD, length, none, some, subst, sym, true, ℕ}
 use Rattle.drain.specs.{Drains.EveryKernelStops, Drains.stepsOf, Drains.stoppedOf}
 use Rattle.kernel.specs.{Fields.ask, Fields.isSound, Fields.kernelOf, Fields.layoutOf, declared.Kernel.Kernel}
-use Rattle.model.specs.{Drain.KernelDrained, Drain.KernelInTurn, Drain.commands, Drain.drain, Drain.results, Drain.stopped, Kernels.kernelFrom, Layouts.Sized, Layouts.layOut, Layouts.tablesOf, Observers.cleanupStarted, Observers.contains, Observers.phase, Soundness.sound, Tables.Tables, Tables.nodeAt, Tables.present, declared.Phase.Phase, declared.Step.Step}
-use Rattle.model.proofs.{Theorems.Drain.Kept.drain-again, Theorems.Drain.Kept.drain-stops, Theorems.Drain.Rule.kernel-drain, Theorems.Drain.Whole.drain-bound, Theorems.Drain.Whole.drain-inactive, Theorems.Drain.Whole.drain-long, Theorems.Drain.Whole.drain-restored, Theorems.Drain.Whole.drain-sound, Theorems.Kernels.asked-of, Theorems.Kernels.asked-sound, Theorems.Layouts.layout-sound, Theorems.Layouts.tables-sound}
+use Rattle.model.specs.{Drain.KernelDrained, Drain.KernelInTurn, Drain.blankStep, Drain.commands, Drain.drain, Drain.results, Drain.stopped, Kernels.kernelFrom, Layouts.Sized, Layouts.layOut, Layouts.tablesOf, Observers.cleanupStarted, Observers.contains, Observers.phase, Soundness.sound, Tables.Tables, Tables.installed, Tables.nodeAt, Tables.present, declared.Phase.Phase, declared.Step.Step}
+use Rattle.model.proofs.{Theorems.Drain.Kept.drain-again, Theorems.Drain.Kept.drain-empty, Theorems.Drain.Kept.drain-stops, Theorems.Drain.Once.drain-once, Theorems.Drain.Rule.kernel-drain, Theorems.Drain.Whole.drain-bound, Theorems.Drain.Whole.drain-inactive, Theorems.Drain.Whole.drain-long, Theorems.Drain.Whole.drain-restored, Theorems.Drain.Whole.drain-sound, Theorems.Kernels.asked-of, Theorems.Kernels.asked-sound, Theorems.Layouts.layout-sound, Theorems.Layouts.tables-sound}
 use Rattle.sizes.specs.{Sizes.STEPS, Sizes.sizes}
 
 module _ (k : Kernel) (z : Sized sizes (layoutOf k)) (h : isSound k ≡ true) where
@@ -33,6 +33,9 @@ pub every-kernel-stops : EveryKernelStops
 every-kernel-stops k z h =
     record {
       in-turn = subst (λ (ss : List Step). KernelInTurn sizes (layoutOf k) (commands ss)) (sym e) (drained k z h .0);
+      once = subst (λ (ss : List Step). (i j : ℕ) → i < j → j < length ss → getD ss i blankStep ≡ getD ss j blankStep → ⊥) (sym e) (drain-once sizes (T k z h) (t k z h));
+      empty = subst (λ (ss : List Step). (ss ≡ []) ↔ ((id : ℕ) → ask k false (λ U. installed (U .nodes) id) ≡ false)) (sym e) none-installed;
+      leaves = after-is k z h;
       sound = ap isSound (after-is k z h) ∙ layout-sound sizes (stopped (T k z h)) (stopped-sound k z h);
       inactive = λ id p. asks k z h none (λ U. phase U id) ∙ idle id (sym (asks k z h false (λ U. contains U id)) ∙ p);
       restored = λ id. asks k z h false (λ U. cleanupStarted U id) ∙ whole id;
@@ -46,6 +49,14 @@ every-kernel-stops k z h =
 
     stops : results (T k z h) (drain (T k z h)) ≡ stopped (T k z h)
     stops = drain-stops sizes (T k z h) (t k z h)
+
+    tells : (id : ℕ) → ask k false (λ U. installed (U .nodes) id) ≡ installed ((T k z h) .nodes) id
+    tells id = asked-sound sizes (layoutOf k) false (λ U. installed (U .nodes) id) h
+
+    none-installed : (drain (T k z h) ≡ []) ↔ ((id : ℕ) → ask k false (λ U. installed (U .nodes) id) ≡ false)
+    none-installed =
+        let (there, back) = drain-empty sizes (T k z h) (t k z h) in
+        (λ n id. tells id ∙ there n id, λ f. back (λ id. sym (tells id) ∙ f id))
 
     idle : (id : ℕ) → present ((stopped (T k z h)) .nodes) id ≡ true → phase (stopped (T k z h)) id ≡ some Phase.Inactive
     idle id p =
