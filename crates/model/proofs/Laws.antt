@@ -1,6 +1,7 @@
 -- What the theorems and the functions' proofs cite.
 pub mod Booleans
 pub mod Lists
+pub mod Ascending
 pub mod Lowest
 pub mod Records
 pub mod Phases

@@ -16,6 +16,7 @@ pub mod Layouts
 pub mod Kernels
 pub mod Episodes
 pub mod Drain
+pub mod Impact
 pub mod Agreement
 pub mod Samples
 pub mod Upstream

@@ -22,4 +22,5 @@ pub mod Space
 pub mod Layouts
 pub mod Kernels
 pub mod Drain
+pub mod Impact
 pub mod Samples

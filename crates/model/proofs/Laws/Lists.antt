@@ -67,6 +67,16 @@ module _ {A : Type 0} where
       go true h = omega arith
       go false h = omega arith
 
+  -- one that does not pass is not kept
+  pub keep-drops : (p : A → Bool) {xs : List A} {x : A} → List·Memᴰ x xs → p x ≡ false → length (keep p xs) < length xs
+  unfolding keep
+  keep-drops p (List·Memᴰ·head {x = y} {xs = ys} e) h = rw (← e, h) (omega (arith, length-keep p ys))
+  keep-drops p (List·Memᴰ·tail {x = y} {xs = ys} m) h = go (p y) (keep-drops p m h)
+    where
+      go : (b : Bool) → length (keep p ys) < length ys → length (cond b (y ∷ keep p ys) (keep p ys)) < length (y ∷ ys)
+      go true l = omega arith
+      go false l = omega arith
+
   -- an entry passes no more
   pub keep-less : (p : A → Bool) (d : A) (xs : List A) (k : ℕ) (y : A) → k < length xs → p (getD xs k d) ≡ true → p y ≡ false → length (keep p xs) ≡ suc (length (keep p (set xs k y)))
   unfolding keep

@@ -1,7 +1,7 @@
 -- The drain of sound tables: its steps pass in turn, then none is installed, and how many they are.
 use Rattle.model.proofs.Logic.{Bool, List, List·getD-map, [], _&&_, _*_, _+_, _∙_, _∷_, _≡_, _≤_, _⊎_, ap, arith, cond, false, inl, inr, length, length-append, length-map, map, map-id, map-map, not, refl, true, ℕ}
 use Rattle.model.specs.{Drain.InTurn, Drain.cleanedIn, Drain.cleanups, Drain.commands, Drain.count, Drain.drain, Drain.isRestoring, Drain.leaves, Drain.mustLeave, Drain.preparation, Drain.restores, Drain.results, Drain.stepOf, Lists.keep, Lists.places, Records.blankNode, Records.isInstalled, Records.isServing, Records.isUnloading, Sizes.Sizes, Sizes.controller, Soundness.sound, Tables.Tables, Tables.installed, Tables.nodeAt, Tables.present, declared.Phase.Phase, declared.Step.Step, declared.StepCommand.StepCommand, declared.records.Node.Node}
-use Rattle.model.proofs.{Laws.Booleans.and-i, Laws.Booleans.and-l, Laws.Booleans.and-r, Laws.Booleans.cases, Laws.Booleans.clash, Laws.Booleans.not-f, Laws.Facts.NodeOk, Laws.Facts.facts, Laws.Lists.length-keep, Laws.Phases.inactive-is, Laws.Phases.unloading-installed, Laws.Records.node-cases, Laws.Records.nodeWith, Theorems.Commands.runFrom, Theorems.Drain.Cleanups.Cleaned, Theorems.Drain.Cleanups.cleaned, Theorems.Drain.Key.Readied, Theorems.Drain.Sweep.Passing, Theorems.Drain.Sweep.anew, Theorems.Drain.Sweep.count-written, Theorems.Drain.Sweep.length-places, Theorems.Drain.Sweep.passing-append, Theorems.Drain.Sweep.passing-in-turn, Theorems.Drain.Sweep.passing-run, Theorems.Drain.Sweep.passing-sound, Theorems.Drain.Sweep.places-written, Theorems.Drain.Sweep.results-append, Theorems.Drain.Sweep.sweep, Theorems.Upstream.Identities.Ascending, Theorems.Upstream.Identities.places-ascend}
+use Rattle.model.proofs.{Laws.Ascending.Ascending, Laws.Ascending.places-ascend, Laws.Booleans.and-i, Laws.Booleans.and-l, Laws.Booleans.and-r, Laws.Booleans.cases, Laws.Booleans.clash, Laws.Booleans.not-f, Laws.Facts.NodeOk, Laws.Facts.facts, Laws.Lists.length-keep, Laws.Phases.inactive-is, Laws.Phases.unloading-installed, Laws.Records.node-cases, Laws.Records.nodeWith, Theorems.Commands.runFrom, Theorems.Drain.Cleanups.Cleaned, Theorems.Drain.Cleanups.cleaned, Theorems.Drain.Key.Readied, Theorems.Drain.Sweep.Passing, Theorems.Drain.Sweep.anew, Theorems.Drain.Sweep.count-written, Theorems.Drain.Sweep.length-places, Theorems.Drain.Sweep.passing-append, Theorems.Drain.Sweep.passing-in-turn, Theorems.Drain.Sweep.passing-run, Theorems.Drain.Sweep.passing-sound, Theorems.Drain.Sweep.places-written, Theorems.Drain.Sweep.results-append, Theorems.Drain.Sweep.sweep}
 
 -- ---- one node after the leaves and after the first finish_cleanups
 
