@@ -6,6 +6,8 @@ use crate::script::Script;
 pub struct Controller {
     pub name: String,
     pub setup: Script,
+    /// How many components are started.
+    pub components: u8,
     /// A component that is retired.
     pub retired: u8,
     /// A port that identity 0 provides and a live link relies on.
@@ -200,5 +202,5 @@ fn finish(name: String, mut setup: Script, components: usize, roles: Roles) -> C
         setup.cycle(filler);
     }
     let Roles { retired, cycled, cycles, refill } = roles;
-    Controller { name, setup, retired, port: port(0), cycled, cycles, refill }
+    Controller { name, setup, components: components as u8, retired, port: port(0), cycled, cycles, refill }
 }

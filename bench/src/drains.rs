@@ -8,7 +8,8 @@ mod controllers;
 mod log;
 mod original;
 mod rattle;
-mod rattle_drains;
+mod rattle_asked;
+mod repeated;
 mod script;
 mod separate;
 
@@ -16,18 +17,13 @@ use plain::{Drain, StepCommand};
 use script::Script;
 use std::hint::black_box;
 
-/// So many nanoseconds a measured run takes at least.
-const ENOUGH: f64 = 2_000_000.0;
-/// The most times in one run.
-const MOST: usize = 1 << 20;
-
 /// A controller's name, and the log that sets it up.
 type Setup = (String, Script);
 /// Plays a log, then does what is measured so many times; the steps of all of them.
 type Measured = fn(&Script, usize) -> usize;
 
 const SIDES: [(&str, Measured); 3] =
-    [("(a) list", rattle_drains::lists), ("(a) stop", rattle_drains::stops), ("(c) by commands", by_commands)];
+    [("(a) list", rattle_asked::drains), ("(a) stop", rattle_asked::stops), ("(c) by commands", by_commands)];
 
 fn main() {
     let words: Vec<String> = std::env::args().skip(1).collect();
@@ -63,7 +59,7 @@ fn setups() -> Vec<Setup> {
 
 /// Both lists must be the same; the program ends loudly if they are not.
 fn check((name, setup): &Setup) {
-    let list = rattle_drains::steps(setup);
+    let list = rattle_asked::steps(setup);
     let mut same = false;
     played(setup, |kernel| same = steps(&kernel.drain()) == list);
     assert!(same, "the lists of {name} differ");
@@ -98,34 +94,10 @@ fn by_commands(setup: &Script, times: usize) -> usize {
 
 fn row(setup: &Setup, rounds: usize) {
     let (name, script) = setup;
-    let steps = rattle_drains::steps(script).len() / 2;
-    let times = SIDES.map(|(_, side)| measure(side, script, steps, rounds));
+    let steps = rattle_asked::steps(script).len() / 2;
+    let times = SIDES.map(|(_, side)| repeated::measure(&|times| side(script, times), steps, rounds));
     let s = original::sizes(&script.log, &mut vec![0; script.len()]);
     let size = format!("{}, {}, {} ({})", s.nodes, s.declarations, s.links, s.live);
     let columns = times.map(|(best, median)| format!("{best:.0} / {median:.0}"));
     println!("| {name} | {size} | {steps} | {} | {:.1} |", columns.join(" | "), times[2].0 / times[0].0);
-}
-
-/// Best and median of a drain: of a run less one that only plays the setup.
-fn measure(side: Measured, setup: &Script, steps: usize, rounds: usize) -> (f64, f64) {
-    let mut times = 1;
-    while times < MOST && run(side, setup, steps, times) < ENOUGH {
-        times *= 2;
-    }
-    let both = |_| (run(side, setup, steps, times), run(side, setup, steps, 0));
-    let runs: Vec<(f64, f64)> = (0..rounds).map(both).collect();
-    let shortest = |of: fn(&(f64, f64)) -> f64| runs.iter().map(of).fold(f64::INFINITY, f64::min);
-    let mut differences: Vec<f64> = runs.iter().map(|(with, without)| with - without).collect();
-    differences.sort_by(f64::total_cmp);
-    let best = shortest(|r| r.0) - shortest(|r| r.1);
-    (best / times as f64, differences[rounds / 2] / times as f64)
-}
-
-/// The nanoseconds of a run, whose steps must be as many as they should be.
-fn run(side: Measured, setup: &Script, steps: usize, times: usize) -> f64 {
-    let start = clock::now();
-    let found = side(setup, times);
-    let taken = clock::now() - start;
-    assert_eq!(found, steps * times, "a drain of another length");
-    taken as f64
 }

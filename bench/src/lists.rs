@@ -62,6 +62,11 @@ fn dropping() -> Vec<List> {
     links.into_iter().chain(declarations).chain([release]).collect()
 }
 
+/// leave of each component, ascending: all are Active.
+pub fn leaves(c: &Controller) -> List {
+    once(&c.name, "leave", c.setup.clone(), |s| (0..c.components).for_each(|id| s.of(log::LEAVE, id, 0)))
+}
+
 fn once(controller: &str, commands: &'static str, setup: Script, write: impl Fn(&mut Script)) -> List {
     let mut measured = Script::default();
     write(&mut measured);

@@ -2,6 +2,7 @@
 use crate::calls::Call;
 use crate::log::Port;
 use crate::record::{Lookup, Missing};
+use crate::reference::hit::Hit;
 use crate::reference::{self, drained, Kernel};
 
 /// A line and its answer.
@@ -68,6 +69,19 @@ pub fn drain(list: &[(Call, u8)], length: usize) -> Asked {
         None => format!("done, steps {length}{}", steps.concat()),
     };
     ("drain".to_string(), answer)
+}
+
+/// affected, by lib.rs's leave and target.
+pub fn affected(id: usize, hit: &Hit) -> Asked {
+    (format!("affected {id}"), format!("{}, {}", refusal(hit.answer), identities(hit.ids.clone())))
+}
+
+/// The answer of a command or a check.
+pub fn refusal(answer: u8) -> String {
+    match answer {
+        0 => "done".to_string(),
+        n => format!("refused {n}"),
+    }
 }
 
 fn found(answer: Lookup) -> String {

@@ -9,6 +9,8 @@ mod calls;
 mod cases;
 mod directed;
 mod drained_kernels;
+mod hit_kernels;
+mod hit_tally;
 mod intended;
 mod log;
 mod lookups;
@@ -60,30 +62,30 @@ struct Run {
 }
 
 impl Run {
-    /// The kernels written by hand, and those of them that are only drained.
+    /// The kernels written by hand, and those of them on which no command is tried but the drain's.
     fn written(&mut self, random: u64) {
-        let (directed, drained) = (directed::all(), drained_kernels::all());
-        let (written, more) = (directed.len(), drained.len());
-        println!("{written} kernels written by hand, {more} more that are only drained, {random} random ones");
-        directed.iter().for_each(|(name, tables)| self.kernel(name, &tables.0, false));
-        drained.iter().for_each(|(name, tables)| self.kernel(name, &tables.0, true));
+        let (directed, asked) = (directed::all(), [drained_kernels::all(), hit_kernels::all()].concat());
+        let (written, more) = (directed.len(), asked.len());
+        println!("{written} kernels written by hand, {more} more that are drained and asked who is hit, {random} random ones");
+        directed.iter().for_each(|(name, tables)| self.kernel(name, &tables.0, true));
+        asked.iter().for_each(|(name, tables)| self.kernel(name, &tables.0, false));
     }
 
     fn random(&mut self, kernels: u64) {
         for count in 0..kernels {
             let tables = random_tables::sample(&mut self.random);
-            self.kernel(&format!("random kernel {count}"), &tables, false);
+            self.kernel(&format!("random kernel {count}"), &tables, true);
         }
     }
 
     /// The lines of a kernel, which has to be sound, and of one that an edit makes unsound.
-    fn kernel(&mut self, name: &str, tables: &Record, only_drained: bool) {
+    fn kernel(&mut self, name: &str, tables: &Record, tried: bool) {
         need_sound(name, tables);
         let (lines, met) = (&mut self.lines, &mut self.met);
-        if only_drained {
-            session::drain(tables, lines, met);
-        } else {
+        if tried {
             session::play(tables, &mut self.random, lines, met);
+        } else {
+            session::drain_and_ask(tables, lines, met);
         }
         if let Some(damaged) = drained_kernels::damaged(tables, &mut self.damage) {
             session::damaged(&damaged, lines, met);

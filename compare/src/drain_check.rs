@@ -1,5 +1,6 @@
 //! One drain held to lib.rs's bodies.
 use crate::calls::Call;
+use crate::difference::Difference;
 use crate::drain_record::{call, Made};
 use crate::drain_tally::Tally;
 use crate::record::Record;
@@ -9,34 +10,22 @@ use crate::text;
 /// The step that stands past the count: leave of 0.
 const BLANK: (u8, u64) = (0x06, 0);
 
-/// Where the two sides do not agree: the log, lib.rs's tables before the drain, and what each side gives.
-pub struct Difference {
-    pub what: String,
-    pub log: Vec<u8>,
-    pub before: String,
-    pub original: String,
-    pub kernel: String,
-}
-
-impl Difference {
-    pub fn new(what: &str, reference: &Reference, made: Option<&Made>) -> Difference {
-        let before = text::tables(&reference.record(0, 0, None));
-        let mut drained = reference.clone();
-        let list = drained.drain();
-        let original = format!("{list:?}\n{}", text::tables(&drained.record(0, 0, None)));
-        Difference { what: what.to_string(), log: Vec::new(), before, original, kernel: format!("{made:?}") }
-    }
+/// What lib.rs gives and what was made.
+fn differ(what: &str, reference: &Reference, made: Option<&Made>) -> Difference {
+    let mut drained = reference.clone();
+    let list = drained.drain();
+    let original = format!("{list:?}\n{}", text::tables(&drained.record(0, 0, None)));
+    Difference::new(what, reference, original, format!("{made:?}"))
 }
 
 /// Holds the drain and the stop of this kernel to lib.rs's bodies.
 pub fn check(reference: &Reference, made: Option<&Made>, tally: &mut Tally) -> Result<(), Difference> {
-    let differ = |what: &str| Difference::new(what, reference, made);
-    let Some(made) = made else { return Err(differ("there is no whole drain")) };
+    let Some(made) = made else { return Err(differ("there is no whole drain", reference, None)) };
     let mut defined = reference.clone();
     let list = defined.drain();
     let what = list_differs(reference, &defined, &list, made).or_else(|| left_differs(reference, made));
     if let Some(what) = what {
-        return Err(differ(what));
+        return Err(differ(what, reference, Some(made)));
     }
     tally.count(reference, &list, made.played.is_some());
     Ok(())

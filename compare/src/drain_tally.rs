@@ -22,7 +22,6 @@ const KINDS: [(&str, fn(&Record, &[Call]) -> bool); 8] = [
 #[derive(Default)]
 pub struct Tally {
     pub drains: u64,
-    pub commands: u64,
     steps: u64,
     played: u64,
     longest: usize,
@@ -44,10 +43,10 @@ impl Tally {
         }
     }
 
-    pub fn print(&self) {
+    pub fn print(&self, commands: u64) {
         println!(
-            "{} drains after {} commands, {} steps, the longest {}",
-            self.drains, self.commands, self.steps, self.longest
+            "{} drains after {commands} commands, {} steps, the longest {}",
+            self.drains, self.steps, self.longest
         );
         println!("{} of them played by the compiled kernel too", self.played);
         println!("\n| steps | drains |\n|---|---|\n| 0 | {} |", self.lengths[0]);

@@ -1,8 +1,9 @@
 //! logs SEED DIR: writes the log files that the program `replay` plays. logs shift FILE: writes the sample shift. logs
-//! status DIR, logs stop DIR: writes those that the programs `status` and `stop` play.
+//! status DIR, logs stop DIR, logs affected DIR: writes those that the programs of these names play.
 // the modules have parts that only `run` uses
 #![allow(dead_code)]
 
+mod affected_logs;
 mod generator;
 mod guide;
 mod log;
@@ -27,11 +28,8 @@ fn main() -> std::io::Result<()> {
     if first == "shift" {
         return std::fs::write(path, scenarios::shift());
     }
-    if first == "status" {
-        return status_logs::all().iter().try_for_each(|(name, log)| std::fs::write(format!("{path}/{name}"), log));
-    }
-    if first == "stop" {
-        return stop_logs::all().iter().try_for_each(|(name, log)| std::fs::write(format!("{path}/{name}"), log));
+    if let Some(named) = named(first) {
+        return named.iter().try_for_each(|(name, log)| std::fs::write(format!("{path}/{name}"), log));
     }
     let Ok(seed) = first.parse() else { usage() };
     let scenarios = scenarios::all().into_iter().map(|(_, log)| log);
@@ -42,8 +40,18 @@ fn main() -> std::io::Result<()> {
     Ok(())
 }
 
+/// The logs of a program, each with the name of its file.
+fn named(program: &str) -> Option<Vec<(&'static str, Vec<u8>)>> {
+    match program {
+        "status" => Some(status_logs::all().to_vec()),
+        "stop" => Some(stop_logs::all().to_vec()),
+        "affected" => Some(affected_logs::all().to_vec()),
+        _ => None,
+    }
+}
+
 fn usage() -> ! {
-    eprintln!("use: logs SEED DIR | logs shift FILE | logs status DIR | logs stop DIR");
+    eprintln!("use: logs SEED DIR | logs shift FILE | logs status DIR | logs stop DIR | logs affected DIR");
     std::process::exit(2);
 }
 

@@ -1,5 +1,6 @@
 //! What a comparison on kernels made by hand met: kernels, answers by command, refusals that lib.rs does not have, by lib.rs's own answer.
 use crate::calls::Call;
+use crate::hit_tally::Tally;
 use crate::intended::{self, Intended};
 use crate::lookups::Lookups;
 use crate::record::{Record, ACTIVE, LOADING};
@@ -80,6 +81,8 @@ pub struct Met {
     pub tables: u64,
     pub lookups: Lookups,
     pub damaged: u64,
+    /// The lists of who is hit.
+    pub hits: Tally,
     /// Drains, their commands and the longest.
     drains: [u64; 3],
     /// Commands and questions that name an identity that no kernel has.
@@ -149,6 +152,8 @@ impl Met {
             "{drains} drains of {commands} commands, the longest of {longest}; {} kernels that are not sound",
             self.damaged
         );
+        println!("who is hit, on {} kernels:", self.hits.kernels);
+        self.hits.print();
         self.lookups.print();
         println!("\n| kernels with | times |\n|---|---|");
         for (count, (name, _)) in self.kinds.iter().zip(KINDS) {

@@ -11,7 +11,7 @@ extern "C" {
         out: *mut u8,
         out_len: usize,
     ) -> usize;
-    fn nobrighi_drains(
+    fn nobrighi_asked(
         log: *const u8,
         log_len: usize,
         asked: *const u8,
@@ -46,9 +46,9 @@ pub fn record(log: &[u8], questions: &[u8], every: usize, out: &mut [u8]) -> usi
     }
 }
 
-/// Plays a log and writes the drains asked for, a byte for each command: 1 a drain, 2 one that is played too; the bytes
-/// written.
-pub fn drains(log: &[u8], asked: &[u8], out: &mut [u8]) -> usize {
+/// Plays a log and writes what is asked for, a byte for each command: 1 a drain, 2 one that is played too, 3 the lists of
+/// who is hit; the bytes written.
+pub fn asked(log: &[u8], asked: &[u8], out: &mut [u8]) -> usize {
     // SAFETY: the library reads and writes only within the slices whose lengths are given.
-    unsafe { nobrighi_drains(log.as_ptr(), log.len(), asked.as_ptr(), asked.len(), out.as_mut_ptr(), out.len()) }
+    unsafe { nobrighi_asked(log.as_ptr(), log.len(), asked.as_ptr(), asked.len(), out.as_mut_ptr(), out.len()) }
 }

@@ -10,6 +10,8 @@ include!(env!("ORIGINAL_RS"));
 // within this module, since it reads lib.rs's tables
 #[path = "drained.rs"]
 pub mod drained;
+#[path = "hit.rs"]
+pub mod hit;
 #[path = "lookup.rs"]
 pub mod lookup;
 #[path = "numbers.rs"]

@@ -1,12 +1,12 @@
 //! One kernel made by hand: its lines for the program `cases`, with the answers of lib.rs's bodies.
-use crate::asked::{self, Asked};
+use crate::asked::{self, refusal, Asked};
 use crate::calls::Call;
 use crate::cases::Line;
 use crate::log::Port;
 use crate::met::{Met, CHECK_INSERT, CHECK_ITERATION};
 use crate::random::Random;
 use crate::record::Record;
-use crate::reference::{self, drained, lookup, Reference, Step};
+use crate::reference::{self, drained, hit, lookup, Reference, Step};
 use crate::sound::sound;
 use crate::text;
 use crate::tried::{self, Trial};
@@ -26,6 +26,7 @@ pub fn play(start: &Record, random: &mut Random, lines: &mut Vec<Line>, met: &mu
     let (far, links) = (tried::far(&identities), tried::links(start, random));
     s.observe(&identities, &far, &ports, &links);
     s.drain(start);
+    s.hits(&far);
     for trial in tried::each(&identities, &far, &ports, random) {
         if s.trial(&trial, true) {
             s.set("back".to_string());
@@ -36,18 +37,20 @@ pub fn play(start: &Record, random: &mut Random, lines: &mut Vec<Line>, met: &mu
         s.trial(&tried::any(&identities, &ports, random), false);
     }
     s.observe(&identities, &far, &ports, &links);
+    s.hits(&far);
     s.tables();
 }
 
-/// Writes a kernel and drains it.
-pub fn drain(start: &Record, lines: &mut Vec<Line>, met: &mut Met) {
+/// Writes a kernel, drains it and asks who is hit if a component leaves.
+pub fn drain_and_ask(start: &Record, lines: &mut Vec<Line>, met: &mut Met) {
     let mut s = Session { reference: Reference::of(start), lines, met };
     s.met.kernel(start, &s.reference);
     s.write(start);
     s.drain(start);
+    s.hits(&tried::far(&[0]));
 }
 
-/// Writes a kernel that is not sound: drain and stop refuse it.
+/// Writes a kernel that is not sound: drain, stop and affected refuse it.
 pub fn damaged(start: &Record, lines: &mut Vec<Line>, met: &mut Met) {
     let mut s = Session { reference: Reference::new(), lines, met };
     s.met.damaged += 1;
@@ -55,6 +58,9 @@ pub fn damaged(start: &Record, lines: &mut Vec<Line>, met: &mut Met) {
     text::tables(start).lines().for_each(|line| s.set(line.to_string()));
     s.expect("sound".to_string(), "no".to_string());
     s.expect("drain".to_string(), "refused 10, steps 0".to_string());
+    for id in (0..=start.nodes.len()).chain(tried::far(&[0])) {
+        s.expect(format!("affected {id}"), "refused 10, empty".to_string());
+    }
     s.expect("stop".to_string(), "refused 10, commands 0, unchanged".to_string());
 }
 
@@ -77,6 +83,17 @@ impl Session<'_> {
         self.ask(None, vec![asked::drain(&[], 0)]);
         self.set("back".to_string());
         self.reference = Reference::of(start);
+    }
+
+    /// Who is hit if a component leaves: of each identity, of the next one and of those that no kernel has.
+    fn hits(&mut self, far: &[usize]) {
+        let now = self.reference.record(0, 0, None);
+        self.met.hits.kernels += 1;
+        for id in (0..=now.nodes.len()).chain(far.iter().copied()) {
+            let hit = hit::affected(self.reference.kernel(), id);
+            self.met.hits.count(&now, id, &hit);
+            self.ask(Some(id), vec![asked::affected(id, &hit)]);
+        }
     }
 
     /// A line that writes the kernel or sets what later lines use.
@@ -193,13 +210,6 @@ impl Session<'_> {
 /// A refusal that hides an answer of lib.rs's wrongly: a text that the program never prints.
 fn hidden(step: &Step) -> Option<String> {
     step.hides_wrongly().then(|| format!("a refusal hides lib.rs's answer {}", step.own))
-}
-
-fn refusal(answer: u8) -> String {
-    match answer {
-        0 => "done".to_string(),
-        n => format!("refused {n}"),
-    }
 }
 
 /// A command's answer as the program prints it.

@@ -7,13 +7,18 @@ pub fn lines(kernel: &Kernel) -> Vec<String> {
     kernel.ids().into_iter().map(|id| component(kernel, id)).collect()
 }
 
+/// The phase of a present component.
+pub fn phase(kernel: &Kernel, id: usize) -> String {
+    kernel.phase(id).map_or_else(|| panic!("{id} is present and has no phase"), |phase| format!("{phase:?}"))
+}
+
 fn component(kernel: &Kernel, id: usize) -> String {
-    let (Some(phase), Some(generation)) = (kernel.phase(id), kernel.episode_generation(id)) else {
-        panic!("{id} is present and has no phase or no generation");
+    let (phase, Some(generation)) = (phase(kernel, id), kernel.episode_generation(id)) else {
+        panic!("{id} is present and has no generation");
     };
     let retired = if kernel.retired(id) { ", retired" } else { "" };
     let restoring = if kernel.cleanup_started(id) { ", restoring" } else { "" };
-    format!("component {id}: {phase:?}, generation {generation}{retired}{restoring}{}", target(kernel, id))
+    format!("component {id}: {phase}, generation {generation}{retired}{restoring}{}", target(kernel, id))
 }
 
 /// What target gives; nothing of a retired component.

@@ -35,14 +35,14 @@ fn shift() -> Vec<u8> {
 }
 
 /// 1 relies on 0 and 2 on 1.
-fn chain() -> Vec<u8> {
+pub fn chain() -> Vec<u8> {
     let mut s = Script::new();
     s.root(&[], &[of(0)]).root(&[of(0)], &[of(1)]).root(&[of(1)], &[]).start(0).start(1).start(2);
     s.log
 }
 
 /// A byte that is no command; the leave after it is not played.
-fn unknown() -> Vec<u8> {
+pub fn unknown() -> Vec<u8> {
     let mut s = Script::new();
     s.root(&[], &[of(0)]).start(0).root(&[of(0)], &[]).begin(1).bytes(&[0x11]).add(Command::Leave(1));
     s.log

@@ -128,7 +128,7 @@ pub fn reply_of(state: State, line: Line) -> Reply {
     if line.name == 13 {
         return of_outcome(configured(state, line));
     }
-    if line.name == 44 {
+    if line.name == 45 {
         let kernel = state.kernel;
         return of_stop(drain::stop(kernel));
     }

@@ -11,6 +11,7 @@
 // - stop: its answer, how many commands it took, and whether the kernel differs.
 // - check_insert, check_iteration, each observer by its name, sound, tables: the answer.
 // - drain: its answer, the count, and each step; one past the count only if it is not blank.
+// - affected: leave's answer, and who is hit.
 // - observe: each question of the file that is the first argument.
 // The kernel goes on from file to file.
 mod commands;
@@ -26,8 +27,8 @@ use text::words::place_of;
 use text::words::word;
 
 // The names of the steps, and how many operands each has. 0 to 19 hand back a kernel: compactions are 10 and 11, insert and configure 12 and 13,
-// those by hand 14 to 19. 20 to 22 set what later steps use. The others are questions: yes or no to 28, counts to 31, checks 32 and 33, drain 43;
-// but stop, the last, hands back a kernel.
+// those by hand 14 to 19. 20 to 22 set what later steps use. The others are questions: yes or no to 28, counts to 31, checks 32 and 33, drain 43,
+// affected 44; but stop, the last, hands back a kernel.
 fn read(line: &[u8]) -> Line {
     text::words::read_line(
         b"begin finish leave leave_if_changed retire begin_cleanup finish_cleanup remove \
@@ -36,8 +37,8 @@ fn read(line: &[u8]) -> Line {
           new back counts node decl link keep dependencies provisions \
           sound contains retired cleanup_started dependency_declared provision_reserved \
           binding_records identity_slots declaration_records check_insert check_iteration \
-          phase episode_generation ids children resolve target committed link_generation tables drain stop ",
-        b"111111113300110037570440111330001111012113000",
+          phase episode_generation ids children resolve target committed link_generation tables drain affected stop ",
+        b"1111111133001100375704401113300011110121130010",
         line,
     )
 }
@@ -57,7 +58,7 @@ fn answer(out: &mut [u8], name: usize, refusal: u8, detail: u64) -> usize {
         let at = text::bytes(out, at, b", removed");
         return text::field(out, at, detail);
     }
-    if name == 44 {
+    if name == 45 {
         let at = text::bytes(out, at, b", commands");
         return text::field(out, at, detail);
     }
@@ -114,7 +115,7 @@ fn run(state: State, line: Line) -> State {
         write(b" ?\n");
         return state;
     }
-    if (line.name < 20) | (line.name == 44) {
+    if (line.name < 20) | (line.name == 45) {
         return replaced(state, line);
     }
     if line.name < 23 {

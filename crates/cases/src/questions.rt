@@ -1,6 +1,7 @@
-// The checks and the observers, the tables, and the drain.
+// The checks and the observers, the tables, the drain, and who is hit if a component leaves.
 use crate::state::State;
 use drain::Drain;
+use impact::Affected;
 use kernel::Kernel;
 use model::Answer;
 use model::Step;
@@ -86,6 +87,15 @@ fn drained(drain: Drain, out: &mut [u8], at: usize) -> usize {
     at
 }
 
+// Leave's answer, and who is hit.
+fn hit(affected: Affected, out: &mut [u8], at: usize) -> usize {
+    let answer = affected.answer;
+    let ids = affected.ids;
+    let at = text::answers::answer(out, at, records::answer_number(answer));
+    let at = text::bytes(out, at, b",");
+    text::answers::identities(out, at, ids)
+}
+
 // The generation in the live link of a consumer and a port.
 fn linked(kernel: Kernel, line: Line, out: &mut [u8], at: usize) -> usize {
     let port = port_of(line.second, line.third);
@@ -110,7 +120,8 @@ fn found(kernel: Kernel, line: Line, out: &mut [u8], at: usize) -> usize {
         40 => text::answers::committed(out, at, kernel.committed(id)),
         41 => linked(kernel, line, out, at),
         42 => tables(kernel, out, at),
-        _ => drained(drain::drain(kernel), out, at),
+        43 => drained(drain::drain(kernel), out, at),
+        _ => hit(impact::affected(kernel, id), out, at),
     }
 }
 

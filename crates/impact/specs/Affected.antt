@@ -8,7 +8,7 @@ use Rattle.kernel.specs.Fields.{layoutOf}
 use Rattle.kernel.specs.Outcomes.{command, outcome}
 use Rattle.model.specs.Answers.{answer}
 use Rattle.model.specs.Commands.{Command}
-use Rattle.model.specs.Impact.{Foretells, Impact, kernelImpact}
+use Rattle.model.specs.Impact.{Impact, Predicts, kernelImpact}
 use Rattle.results.specs.Results.{identities}
 use Rattle.sizes.specs.Sizes.{IDENTITIES, sizes}
 
@@ -27,7 +27,7 @@ affectedOf k id = answered (impactOf k id)
 
 pub record Listed (k : Kernel) (id : ℕ) : Type 0 where
   -- the list is what leave, target, leave_if_changed and check_iteration would answer
-  pub foretells : Foretells sizes (layoutOf k) id (impactOf k id) (command k (Command.leave id))
+  pub predicts : Predicts sizes (layoutOf k) id (impactOf k id) (command k (Command.leave id))
   -- the answer is leave's, and the array has room for the list
   pub answers : (affectedOf k id) .answer ≡ (outcome (command k (Command.leave id))) .answer
   pub fits : length ((impactOf k id) .hit) ≤ IDENTITIES

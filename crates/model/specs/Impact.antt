@@ -18,7 +18,7 @@ use Rattle.model.specs.Layouts.{Layout, tablesOf}
 use Rattle.model.specs.Lifecycle.{leaveTests, left, phaseAt, relies}
 use Rattle.model.specs.Lists.{any, conj, isNone, keep}
 use Rattle.model.specs.Observers.{ids}
-use Rattle.model.specs.Records.{isLoading, isRunning, providerIn}
+use Rattle.model.specs.Records.{consumerIn, isLoading, isRunning, providerIn}
 use Rattle.model.specs.Refusals.{Reply, first}
 use Rattle.model.specs.Resolution.{isLiveLinkOf, target, targetList}
 use Rattle.model.specs.Sizes.{Sizes}
@@ -46,12 +46,12 @@ pub record Impact : Type 0 where
 abbrev pub refusedImpact : Error → Impact
 refusedImpact e = record { reply = Reply.refused e; hit = [] }
 
-unfoldable pub impactOf : Option Error → List ℕ → Impact
-impactOf none js = record { reply = Reply.done; hit = js }
-impactOf (some e) js = refusedImpact e
+unfoldable pub unlessRefused : Option Error → List ℕ → Impact
+unlessRefused none js = record { reply = Reply.done; hit = js }
+unlessRefused (some e) js = refusedImpact e
 
 abbrev pub impact : Tables → ℕ → Impact
-impact T id = impactOf (first (leaveTests T id)) (affected T id)
+impact T id = unlessRefused (first (leaveTests T id)) (affected T id)
 
 -- of any kernel: 10 if it is not sound
 abbrev pub kernelImpact : Sizes → Layout → ℕ → Impact
@@ -74,13 +74,15 @@ pub record Hit (S : Sizes) (k m : Layout) (id j : ℕ) : Type 0 where
   pub after : targetList (targetOf S m j) ≡ none
 
 -- `i` is what asking replies on the kernel k, `o` what leave hands back
-pub record Foretells (S : Sizes) (k : Layout) (id : ℕ) (i : Impact) (o : Commanded) : Type 0 where
+pub record Predicts (S : Sizes) (k : Layout) (id : ℕ) (i : Impact) (o : Commanded) : Type 0 where
   -- leave's own reply, a refusal too, which comes with an empty list
   pub replies : i .reply ≡ o .reply
   pub empty-if-refused : (e : Error) → i .reply ≡ Reply.refused e → i .hit ≡ []
-  -- just those that are hit; ascending, each once; no more than live links name it as provider
+  -- just those that are hit; ascending, each once
   pub lists : i .reply ≡ Reply.done → (j : ℕ) → List·Memᴰ j (i .hit) ↔ Hit S k (o .kernel) id j
   pub ascends : (a b : ℕ) → a < b → b < length (i .hit) → getD (i .hit) a 0 < getD (i .hit) b 0
+  -- each has a live link that names the leaving one as provider, and there are no more of them than of such links
+  pub relying : (j : ℕ) → List·Memᴰ j (i .hit) → (l : Link) × List·Memᴰ l (keep (relies id) ((tablesOf k) .links)) × (consumerIn l ≡ j)
   pub few : length (i .hit) ≤ length (keep (relies id) ((tablesOf k) .links))
   -- another that is Loading or Active and off the list: the same bindings, or none both times
   pub others : i .reply ≡ Reply.done → (j : ℕ) → (j ≡ id → ⊥) → runs S k j ≡ true → (List·Memᴰ j (i .hit) → ⊥) → targetList (targetOf S (o .kernel) j) ≡ targetList (targetOf S k j)
@@ -95,7 +97,7 @@ pub record Foretells (S : Sizes) (k : Layout) (id : ℕ) (i : Impact) (o : Comma
 
 -- one claim about all kernels, sound or not
 abbrev pub ImpactRule : Type 0
-ImpactRule = (S : Sizes) (k : Layout) (id : ℕ) → Foretells S k id (kernelImpact S k id) (commanded S k (Command.leave id))
+ImpactRule = (S : Sizes) (k : Layout) (id : ℕ) → Predicts S k id (kernelImpact S k id) (commanded S k (Command.leave id))
 
 -- ---- the list told from the links, without the tables after the leave (Theorems/Impact: on sound tables the same list)
 

@@ -1,13 +1,16 @@
-// Logs of commands played on the kernel, and the functions exported for Rust: two here, those of drains beside.
+// Logs of commands played on the kernel, and the functions exported for Rust: two here, one in asked, one in times.
 ghost use lib.ListN.{length};
 ghost use Prim.Native.Nat.{_≤_};
 
+mod asked;
 mod commands;
 mod drains;
+mod lists;
 mod log;
 mod observe;
 pub mod put;
 mod tables;
+mod times;
 
 pub use commands::Player;
 pub use commands::play;

@@ -3,6 +3,7 @@
 ghost use lib.ListN.{length};
 ghost use mathlib.Core.Path.{_≡_};
 ghost use Prim.Native.Nat.{_-_, _≤_};
+use model::Answer;
 
 // How many bytes are free.
 pub fn free(out: &[u8], at: usize) -> usize
@@ -80,4 +81,12 @@ pub fn none(out: &mut [u8], at: usize) -> usize
 {
     let at = byte(out, at, 0);
     word(out, at, 0)
+}
+
+// An answer's number and a count.
+pub fn head(out: &mut [u8], at: usize, answer: Answer, count: usize) -> usize
+    ensures { λ r. ⌜ r ≤ length (now (out .entry)) ⌝ }
+{
+    let at = byte(out, at, records::answer_number(answer));
+    half(out, at, count)
 }

@@ -2,6 +2,7 @@
 use text::logs::early;
 use text::logs::last_answer;
 use text::logs::line;
+use text::logs::take;
 use text::logs::warn;
 
 fn cannot_read(name: &[u8]) {
@@ -10,17 +11,17 @@ fn cannot_read(name: &[u8]) {
     warn(&out, at);
 }
 
-// The first 65,536 bytes of what is open, played.
-fn show(fd: i32, name: &[u8]) {
+// The first 65,536 bytes of a file, played.
+fn show_file(name: &[u8]) {
     let mut log = io::large_buffer();
-    let n = io::read_full(fd, &mut log);
-    let mut more = [0u8; 1];
-    if libc::read(fd, &mut more) < 0 {
+    let taken = take(name, &mut log);
+    if !taken.whole {
         cannot_read(name);
         return;
     }
+    let n = taken.count;
     let mut answers = io::large_buffer();
-    let played = player::play(player::start(), &log[..n], &mut answers);
+    let played = player::play(player::start(), &log[0..n], &mut answers);
     let kernel = played.kernel;
     let mut out = io::large_buffer();
     let at = early(
@@ -33,16 +34,6 @@ fn show(fd: i32, name: &[u8]) {
     warn(&out, at);
     let at = text::status::components(&mut out, 0, kernel);
     text::flush(&out, at);
-}
-
-fn show_file(name: &[u8]) {
-    let fd = os::open_read(name);
-    if fd < 0 {
-        cannot_read(name);
-        return;
-    }
-    show(fd, name);
-    libc::close(fd);
 }
 
 fn show_argument(i: usize) {

@@ -6,11 +6,9 @@ use player::Player;
 use sizes::STEPS;
 use text::end;
 use text::field;
-use text::logs::early;
 use text::logs::last_answer;
-use text::logs::line;
-use text::logs::line_if;
-use text::logs::warn;
+use text::logs::take;
+use text::logs::tell;
 use text::steps::step;
 
 // A command of the drain, and its answer.
@@ -46,52 +44,24 @@ fn drained(player: Player) {
     text::flush(&out, at);
 }
 
-// What is to say of a log that could not be read whole or that an answer ended.
-fn tell(name: &[u8], whole: bool, answer: u8) {
-    let mut said = io::large_buffer();
-    let at = line_if(&mut said, 0, !whole, b"stop", name, b" cannot be read");
-    let at = early(&mut said, at, b"stop", name, answer);
-    let at = line_if(
-        &mut said,
-        at,
-        0 < at,
+// The first 65,536 bytes of a file, as far as they can be read, played and drained; of a file that cannot be opened nothing is.
+fn stop_file(name: &[u8]) {
+    let mut log = io::large_buffer();
+    let taken = take(name, &mut log);
+    let n = taken.count;
+    let mut answers = io::large_buffer();
+    let played = player::play(player::start(), &log[0..n], &mut answers);
+    tell(
         b"stop",
         name,
+        taken,
+        last_answer(&answers, played.answered),
         b" is drained as far as it was played",
+        b" was not played, and nothing is drained",
     );
-    warn(&said, at);
-}
-
-// The first 65,536 bytes of what is open, as far as they can be read, played and drained.
-fn stop(fd: i32, name: &[u8]) {
-    let mut log = io::large_buffer();
-    let n = io::read_full(fd, &mut log);
-    let mut more = [0u8; 1];
-    let whole = 0 <= libc::read(fd, &mut more);
-    let mut answers = io::large_buffer();
-    let played = player::play(player::start(), &log[..n], &mut answers);
-    tell(name, whole, last_answer(&answers, played.answered));
-    drained(played);
-}
-
-// Of a file that cannot be opened nothing is played.
-fn stop_file(name: &[u8]) {
-    let fd = os::open_read(name);
-    if fd < 0 {
-        let mut said = io::large_buffer();
-        let at = line(&mut said, 0, b"stop", name, b" cannot be read");
-        let at = line(
-            &mut said,
-            at,
-            b"stop",
-            name,
-            b" was not played, and nothing is drained",
-        );
-        warn(&said, at);
-        return;
+    if taken.opened {
+        drained(played);
     }
-    stop(fd, name);
-    libc::close(fd);
 }
 
 fn stop_argument(i: usize) {

@@ -6,6 +6,7 @@ use crate::field;
 use crate::number;
 use crate::stored;
 use model::Binding;
+use model::Error;
 use model::OptionGeneration;
 use model::OptionPhase;
 use model::OptionUnresolved;
@@ -26,6 +27,33 @@ pub fn answer(out: &mut [u8], at: usize, number: u8) -> usize
     }
     let at = bytes(out, at, b" refused");
     field(out, at, number as u64)
+}
+
+// A refusal's name.
+fn name(out: &mut [u8], at: usize, error: Error) -> usize
+    ensures { λ r. ⌜ r ≤ length (now (out .entry)) ⌝ }
+{
+    match error {
+        Error::Unknown => bytes(out, at, b" Unknown"),
+        Error::InvalidState => bytes(out, at, b" InvalidState"),
+        Error::Retired => bytes(out, at, b" Retired"),
+        Error::MissingDependency => bytes(out, at, b" MissingDependency"),
+        Error::Conflict => bytes(out, at, b" Conflict"),
+        Error::Changed => bytes(out, at, b" Changed"),
+        Error::Relied => bytes(out, at, b" Relied"),
+        Error::Children => bytes(out, at, b" Children"),
+        Error::Capacity => bytes(out, at, b" Capacity"),
+        Error::Damaged => bytes(out, at, b" Damaged"),
+    }
+}
+
+// A refusal at the start of a line: its number and its name.
+pub fn refusal(out: &mut [u8], at: usize, error: Error) -> usize
+    ensures { λ r. ⌜ r ≤ length (now (out .entry)) ⌝ }
+{
+    let at = bytes(out, at, b"refused");
+    let at = field(out, at, records::error_number(error) as u64);
+    name(out, at, error)
 }
 
 pub fn phase(out: &mut [u8], at: usize, answer: OptionPhase) -> usize

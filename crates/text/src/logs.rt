@@ -1,4 +1,4 @@
-// What is said of a log that is played, for the programs.
+// A log taken from a file, and what is said of one that is played, for the programs.
 ghost use mathlib.Core.Path.{_≡_};
 ghost use lib.ListN.{length};
 ghost use Prim.Native.Nat.{_≤_};
@@ -74,6 +74,50 @@ pub fn early(out: &mut [u8], at: usize, program: &[u8], name: &[u8], answer: u8)
     loops::at_most(at, out.len())
 }
 
+// What was taken of a file: whether it could be opened, how many bytes were read, and whether it could be read on behind them.
+pub struct Taken {
+    pub opened: bool,
+    pub count: usize,
+    pub whole: bool,
+}
+
+fn not_opened() -> Taken
+    ensures { λ r. ⌜ r .count ≡ 0 ⌝ }
+{
+    Taken {
+        opened: false,
+        count: 0,
+        whole: false,
+    }
+}
+
+// The first bytes of what is open, as many as there is room for.
+fn read(fd: i32, log: &mut [u8]) -> Taken
+    ensures { λ r. ⌜ r .count ≤ length (now (log .entry)) ⌝ }
+{
+    let count = io::read_full(fd, log);
+    let mut more = [0u8; 1];
+    let behind = libc::read(fd, &mut more);
+    Taken {
+        opened: true,
+        count: count,
+        whole: 0 <= behind,
+    }
+}
+
+// The first bytes of a file.
+pub fn take(name: &[u8], log: &mut [u8]) -> Taken
+    ensures { λ r. ⌜ r .count ≤ length (now (log .entry)) ⌝ }
+{
+    let fd = os::open_read(name);
+    if fd < 0 {
+        return not_opened();
+    }
+    let taken = read(fd, log);
+    libc::close(fd);
+    taken
+}
+
 // Writes what is gathered to standard error; the next place is the start.
 pub fn warn(out: &[u8], at: usize) -> usize
     ensures { λ r. ⌜ r ≡ 0 ⌝ }
@@ -82,4 +126,31 @@ pub fn warn(out: &[u8], at: usize) -> usize
         io::write_all(STDERR_FILENO, &out[0..at]);
     }
     0
+}
+
+// Says of a log that it could not be read whole or that this answer ended it, and then what is made of it, or of a file that was not opened; nothing of another log.
+pub fn tell(
+    program: &[u8],
+    name: &[u8],
+    taken: Taken,
+    answer: u8,
+    made: &[u8],
+    not_played: &[u8],
+) -> usize
+    ensures { λ r. ⌜ r ≡ 0 ⌝ }
+{
+    let opened = taken.opened;
+    let mut said = io::large_buffer();
+    let at = line_if(
+        &mut said,
+        0,
+        !taken.whole,
+        program,
+        name,
+        b" cannot be read",
+    );
+    let at = early(&mut said, at, program, name, answer);
+    let at = line_if(&mut said, at, opened & (0 < at), program, name, made);
+    let at = line_if(&mut said, at, !opened, program, name, not_played);
+    warn(&said, at)
 }

@@ -1,4 +1,4 @@
-// The status of a kernel in words: a line for each present component.
+// The status of a kernel in words: a line for each present component, or a shorter one for each of a list.
 ghost use lib.ListN.{length};
 ghost use Prim.Native.Nat.{_≤_};
 use crate::answers;
@@ -10,6 +10,7 @@ use kernel::Kernel;
 use model::OptionUnresolved;
 use model::Resolution;
 use model::Unresolved;
+use results::Identities;
 use sizes::IDENTITIES;
 
 // Why a dependency did not resolve.
@@ -49,14 +50,14 @@ fn target(out: &mut [u8], at: usize, kernel: Kernel, id: usize) -> usize
     either(out, at, target.there, b", has its target", b"")
 }
 
-// Its phase and generation.
-fn episode(out: &mut [u8], at: usize, kernel: Kernel, id: usize) -> usize
+// Its identity and its phase.
+fn phase(out: &mut [u8], at: usize, kernel: Kernel, id: usize) -> usize
     ensures { λ r. ⌜ r ≤ length (now (out .entry)) ⌝ }
 {
+    let at = bytes(out, at, b"component");
+    let at = field(out, at, id as u64);
     let at = bytes(out, at, b":");
-    let at = answers::phase(out, at, kernel.phase(id));
-    let at = bytes(out, at, b", generation");
-    answers::generation(out, at, kernel.episode_generation(id))
+    answers::phase(out, at, kernel.phase(id))
 }
 
 // Whether it is retired, and whether it is restoring.
@@ -67,29 +68,52 @@ fn marks(out: &mut [u8], at: usize, kernel: Kernel, id: usize) -> usize
     either(out, at, kernel.cleanup_started(id), b", restoring", b"")
 }
 
-// The line of one component.
-fn component(out: &mut [u8], at: usize, kernel: Kernel, id: usize) -> usize
+// What is said behind the phase, if it is wanted: its generation, its marks and its target.
+fn rest_if(out: &mut [u8], at: usize, wanted: bool, kernel: Kernel, id: usize) -> usize
     ensures { λ r. ⌜ r ≤ length (now (out .entry)) ⌝ }
 {
-    let at = bytes(out, at, b"component");
-    let at = field(out, at, id as u64);
-    let at = episode(out, at, kernel, id);
+    if !wanted {
+        return loops::at_most(at, out.len());
+    }
+    let at = bytes(out, at, b", generation");
+    let at = answers::generation(out, at, kernel.episode_generation(id));
     let at = marks(out, at, kernel, id);
-    let at = target(out, at, kernel, id);
+    target(out, at, kernel, id)
+}
+
+// The line of one component: its phase alone, or all of its status.
+fn component(out: &mut [u8], at: usize, kernel: Kernel, id: usize, all: bool) -> usize
+    ensures { λ r. ⌜ r ≤ length (now (out .entry)) ⌝ }
+{
+    let at = phase(out, at, kernel, id);
+    let at = rest_if(out, at, all, kernel, id);
     end(out, at)
+}
+
+// A line for each component of a list, in its order.
+fn lines(out: &mut [u8], at: usize, kernel: Kernel, list: Identities, all: bool) -> usize
+    ensures { λ r. ⌜ r ≤ length (now (out .entry)) ⌝ }
+{
+    let count = loops::at_most(list.count, IDENTITIES);
+    let mut at = loops::at_most(at, out.len());
+    let mut i = 0;
+    while i < count {
+        at = component(out, at, kernel, list.ids[i], all);
+        i += 1;
+    }
+    at
 }
 
 // A line for each present component, ascending.
 pub fn components(out: &mut [u8], at: usize, kernel: Kernel) -> usize
     ensures { λ r. ⌜ r ≤ length (now (out .entry)) ⌝ }
 {
-    let present = kernel.ids();
-    let count = loops::at_most(present.count, IDENTITIES);
-    let mut at = loops::at_most(at, out.len());
-    let mut i = 0;
-    while i < count {
-        at = component(out, at, kernel, present.ids[i]);
-        i += 1;
-    }
-    at
+    lines(out, at, kernel, kernel.ids(), true)
+}
+
+// A line for each component of a list: its phase.
+pub fn phases(out: &mut [u8], at: usize, kernel: Kernel, list: Identities) -> usize
+    ensures { λ r. ⌜ r ≤ length (now (out .entry)) ⌝ }
+{
+    lines(out, at, kernel, list, false)
 }

@@ -1,7 +1,9 @@
 // A line read: its name as a place in a row of names, its operands as numbers.
 ghost use lib.ListN.{length};
-ghost use Prim.Native.Nat.{_≤_};
-ghost use Rattle.text.specs.Words.{namesIn};
+ghost use mathlib.Core.Path.{_≡_};
+ghost use Prim.Native.Nat.{_*_, _+_, _≤_};
+ghost use Rattle.loops.specs.Limits.{AtMost};
+ghost use Rattle.text.specs.Words.{digitOf, isNumber, most, namesIn, withDigits};
 
 const MOST: u64 = 18446744073709551615;
 
@@ -21,10 +23,10 @@ pub struct Line {
 }
 
 // One word as an operand.
-struct Operand {
-    value: u64,
-    none: bool,
-    known: bool,
+pub struct Operand {
+    pub value: u64,
+    pub none: bool,
+    pub known: bool,
 }
 
 // Word k of a line, empty if it has fewer.
@@ -85,7 +87,9 @@ pub fn place_of(names: &[u8], word: &[u8]) -> usize
 }
 
 // The value of a digit, 10 of another byte.
-fn digit(byte: u8) -> u64 {
+fn digit(byte: u8) -> u64
+    ensures { λ r. ⌜ r ≡ digitOf byte ⌝ }
+{
     if byte < b'0' {
         return 10;
     }
@@ -96,7 +100,9 @@ fn digit(byte: u8) -> u64 {
 }
 
 // The number with one digit more; the largest number if it is more than that.
-fn with_digit(value: u64, digit: u64) -> u64 {
+fn with_digit(value: u64, digit: u64) -> u64
+    ensures { λ r. ⌜ AtMost (value * 10 + digit) most r ⌝ }
+{
     if MOST / 10 < value {
         return MOST;
     }
@@ -106,9 +112,13 @@ fn with_digit(value: u64, digit: u64) -> u64 {
     value * 10 + digit
 }
 
-fn number(word: &[u8]) -> Operand {
+// A word as a number, the largest number if it is more than that; known if the word has digits alone, and at least one.
+pub fn number(word: &[u8]) -> Operand
+    ensures { λ r. ⌜ AtMost (withDigits 0 (now (word .entry))) most (r .value) ⌝ }
+    ensures { λ r. ⌜ r .known ≡ isNumber (now (word .entry)) ⌝ }
+{
     let mut value = 0;
-    let mut known = true;
+    let mut known = 0 < word.len();
     let mut i = 0;
     while i < word.len() {
         let next = digit(word[i]);

@@ -9,4 +9,4 @@ use Rattle.sizes.specs.{Sizes.sizes}
 pub every-impact-listed : EveryImpactListed
 every-impact-listed k id =
     let rule = impact-rule sizes (layoutOf k) id in
-    record { foretells = rule; answers = ap answer (rule .replies); fits = impact-fits sizes (layoutOf k) id }
+    record { predicts = rule; answers = ap answer (rule .replies); fits = impact-fits sizes (layoutOf k) id }

@@ -2,5 +2,6 @@
 pub mod Target
 pub mod Hit
 pub mod Links
+pub mod Changed
 pub mod Rule
 pub mod Sample

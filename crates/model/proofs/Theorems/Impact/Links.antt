@@ -1,7 +1,7 @@
 -- On sound tables the list told from the links: a component that runs has a target exactly if it is not retired and every live link of it has an Active provider.
-use Rattle.model.proofs.Logic.{Bool, List, List·Memᴰ, Memᴰ·cast, _&&_, _+_, _<_, _↔_, _∙_, _≡_, ap, arith, decLt, eq-eqb, eqb, eqb-true, false, getD, length, List·getD-eq-default, none, not, refl, some, subst, sym, true, ℕ}
+use Rattle.model.proofs.Logic.{Bool, List, List·Memᴰ, List·getD-eq-default, Memᴰ·cast, _&&_, _+_, _<_, _↔_, _∙_, _≡_, ap, arith, decLt, eq-eqb, eqb, eqb-true, false, getD, length, none, not, refl, some, subst, sym, true, ℕ}
 use Rattle.model.specs.{Impact.affected, Impact.isProvider, Impact.isReliant, Impact.isUnserved, Impact.linked, Impact.reliantTests, Lifecycle.leaveTests, Lifecycle.phaseAt, Lifecycle.relies, Lists.places, Records.bindingIn, Records.consumerIn, Records.dependency, Records.isRunning, Records.portIn, Records.portOf, Records.providerIn, Records.provision, Resolution.Target, Resolution.bindPorts, Resolution.dependencyPorts, Resolution.isLiveLinkOf, Resolution.resolve, Resolution.target, Resolution.targetList, Sizes.Sizes, Soundness.apart, Soundness.sound, Tables.Tables, Tables.nodeAt, Tables.present, Tables.providing, declared.Binding.Binding, declared.Port.Port, declared.Resolution.Resolution, declared.records.Link.Link}
-use Rattle.model.proofs.{Laws.Ascending.ascending-same, Laws.Ascending.at-places, Laws.Ascending.places-ascend, Laws.Ascending.places-at, Laws.Booleans.Each, Laws.Booleans.and-i, Laws.Booleans.and-l, Laws.Booleans.and-r, Laws.Booleans.clash, Laws.Booleans.each, Laws.Booleans.f-not, Laws.Booleans.not-f, Laws.Booleans.not-t, Laws.Booleans.of-each, Laws.Committed.live-link-of, Laws.Facts.Linked, Laws.Facts.LiveOk, Laws.Facts.Sound, Laws.Facts.facts, Laws.Lists.any-in, Laws.Lists.at-in, Laws.Lists.in-any, Laws.Lists.in-at, Laws.Lists.in-keep, Laws.Lists.is-some, Laws.Lists.never, Laws.Lists.onward-at, Laws.Order.of-apart, Laws.Nodes.present-lt, Laws.Phases.active-is, Laws.Phases.running-installed, Laws.Refusals.Passed, Laws.Resolution.FirstUnresolved, Laws.Resolution.Resolved, Laws.Resolution.Targeted, Laws.Resolution.bind-missing, Laws.Resolution.bind-something, Laws.Resolution.target-bound, Laws.Resolution.target-covers, Laws.Resolution.target-resolved, Laws.Resolution.targeted, Laws.Resolution.wants-in, Theorems.Impact.Hit.Targets, Theorems.Impact.Hit.affected-ascend, Theorems.Impact.Hit.affected-is, Theorems.Impact.Hit.affected-relies, Theorems.Impact.Hit.binds-hit, Theorems.Impact.Hit.not-none, Theorems.Impact.Hit.one-provider, Theorems.Impact.Target.binds-to, Theorems.Points.node-at, Theorems.Resolution.resolve-exactly}
+use Rattle.model.proofs.{Laws.Ascending.ascending-same, Laws.Ascending.at-places, Laws.Ascending.places-ascend, Laws.Ascending.places-at, Laws.Booleans.Each, Laws.Booleans.and-i, Laws.Booleans.and-l, Laws.Booleans.and-r, Laws.Booleans.clash, Laws.Booleans.each, Laws.Booleans.f-not, Laws.Booleans.not-f, Laws.Booleans.not-t, Laws.Booleans.of-each, Laws.Committed.live-link-of, Laws.Facts.Linked, Laws.Facts.LiveOk, Laws.Facts.Sound, Laws.Facts.facts, Laws.Lists.any-in, Laws.Lists.at-in, Laws.Lists.in-any, Laws.Lists.in-at, Laws.Lists.in-keep, Laws.Lists.is-some, Laws.Lists.never, Laws.Lists.onward-at, Laws.Nodes.present-lt, Laws.Order.of-apart, Laws.Phases.active-is, Laws.Phases.running-installed, Laws.Refusals.Passed, Laws.Resolution.FirstUnresolved, Laws.Resolution.Resolved, Laws.Resolution.Targeted, Laws.Resolution.bind-missing, Laws.Resolution.bind-something, Laws.Resolution.target-bound, Laws.Resolution.target-covers, Laws.Resolution.target-resolved, Laws.Resolution.targeted, Laws.Resolution.wants-in, Theorems.Impact.Hit.Targets, Theorems.Impact.Hit.affected-ascend, Theorems.Impact.Hit.affected-is, Theorems.Impact.Hit.affected-relies, Theorems.Impact.Hit.binds-hit, Theorems.Impact.Hit.not-none, Theorems.Impact.Hit.one-provider, Theorems.Impact.Target.binds-to, Theorems.Points.node-at, Theorems.Resolution.resolve-exactly}
 
 -- ---- a live link of this consumer that passes
 

@@ -1,100 +1,16 @@
 -- The claim: what asking says of a leave is what leave, target, leave_if_changed and check_iteration answer, of every kernel.
-use Rattle.model.proofs.Logic.{Bool, List·Memᴰ, Option, [], _↔_, _∙_, _∷_, _≡_, _≤_, ap, arith, false, length, none, not, refl, some, sym, true, ℕ}
-use Rattle.model.specs.{Commands.Command, Commands.settle, Commands.step, Drain.mustLeave, Impact.Foretells, Impact.Hit, Impact.ImpactRule, Impact.affected, Impact.impact, Impact.impactOf, Impact.isHit, Impact.kernelImpact, Impact.refusedImpact, Impact.runs, Iteration.targetOf, Kernels.asked, Kernels.commanded, Layouts.Layout, Layouts.layOut, Layouts.soundKernel, Layouts.tablesOf, Lifecycle.checkIteration, Lifecycle.leaveIfChangedTests, Lifecycle.leaveTests, Lifecycle.left, Lifecycle.phaseAt, Observers.ids, Records.isLoading, Records.isRunning, Impact.hasTarget, Refusals.Reply, Refusals.Tests, Lists.all, Refusals.first, Refusals.orElse, Resolution.Target, Resolution.target, Resolution.targetList, Sizes.Sizes, Soundness.sound, Tables.Tables, Tables.nodeAt, Tables.present, declared.Error.Error, declared.records.Node.Node}
-use Rattle.model.proofs.{Laws.Ascending.ascending-at, Laws.Booleans.and-i, Laws.Booleans.and-l, Laws.Booleans.and-r, Laws.Booleans.f-not, Laws.Booleans.not-f, Laws.Booleans.not-t, Laws.Facts.facts, Laws.Facts.of-facts, Laws.Lists.length-keep, Laws.Phases.loading-running, Laws.Refusals.Passed, Laws.Refusals.of-passed, Laws.Refusals.passed, Laws.Refusals.refused-at, Theorems.Drain.Sweep.length-places, Theorems.Impact.Hit.affected-ascend, Theorems.Impact.Hit.affected-few, Theorems.Impact.Hit.affected-is, Theorems.Impact.Hit.is-none, Theorems.Impact.Hit.is-there, Theorems.Impact.Hit.not-none, Theorems.Impact.Hit.unaffected-same, Theorems.Impact.Target.node-kept, Theorems.Kernels.asked-of, Theorems.Kernels.asked-sound, Theorems.Kernels.asked-unsound, Theorems.Kernels.commanded-accepted, Theorems.Kernels.commanded-refused, Theorems.Kernels.commanded-unsound, Theorems.Layouts.tables-sound, Theorems.Lifecycle.left-sound}
-
-done-refused : {C : Type 0} {e : Error} → Reply.refused e ≡ Reply.done → C
-done-refused x = let z : _≡_ {A = ℕ} 0 1 = cc in absurd (omega arith)
-
--- ---- a row whose last test gives 6: what leave_if_changed and check_iteration test
-
-module _ (a b c : Bool) where
-  abbrev row : Tests
-  row = (a, Error.Unknown) ∷ (b, Error.InvalidState) ∷ (c, Error.Changed) ∷ []
-
-  row-changed : (orElse (first row) Reply.done ≡ Reply.refused Error.Changed) ↔ ((a ≡ false) × (b ≡ false) × (c ≡ true))
-  unfolding all
-  row-changed =
-      let (to, of) = refused-at ((a, Error.Unknown) ∷ (b, Error.InvalidState) ∷ []) c Error.Changed [] refl refl in
-      (λ x. let (p, e) = to (refused-by (first row) x) in (p .0, p .1 .0, e), λ (x, y, e). ap (λ (o : Option Error). orElse o Reply.done) (of ((x, (y, tt)), e)))
-    where
-      refused-by : (o : Option Error) → orElse o Reply.done ≡ Reply.refused Error.Changed → o ≡ some Error.Changed
-      refused-by none x = done-refused (sym x)
-      refused-by (some e) x = let y : e ≡ Error.Changed = cc in ap some y
-
-  row-done : (orElse (first row) Reply.done ≡ Reply.done) ↔ ((a ≡ false) × (b ≡ false) × (c ≡ false))
-  row-done = (λ x. let p = passed row (none-of (first row) x) in (p .0, p .1 .0, p .1 .1 .0), λ (x, y, e). ap (λ (o : Option Error). orElse o Reply.done) (of-passed row (x, (y, (e, tt)))))
-    where
-      none-of : (o : Option Error) → orElse o Reply.done ≡ Reply.done → o ≡ none
-      none-of none x = refl
-      none-of (some e) x = done-refused x
-
--- ---- on tables, where leave's tests are passed
-
-settled : (o : Option Error) (T U : Tables) → (settle o T (record { tables = U; reply = Reply.done })) .reply ≡ orElse o Reply.done
-unfolding settle
-settled none T U = refl
-settled (some e) T U = refl
-
-abbrev leaveReply : Sizes → Tables → ℕ → Reply
-leaveReply S T j = (step S T (Command.leaveIfChanged j)) .reply
-
-module _ (S : Sizes) (T : Tables) (id : ℕ) (q : Passed (leaveTests T id)) (j : ℕ) (d : j ≡ id → ⊥) where
-  leave-reply : (U : Tables) → leaveReply S U j ≡ orElse (first (leaveIfChangedTests U j)) Reply.done
-  unfolding step
-  leave-reply U = settled (first (leaveIfChangedTests U j)) U (left U j)
-
-  -- what a test says of another's node it says after the leave
-  kept : {A : Type 0} (f : Node → A) → f (nodeAt ((left T id) .nodes) j) ≡ f (nodeAt (T .nodes) j)
-  kept f = ap f (node-kept T id q j d)
-
-  abbrev Listed : Type 0
-  Listed = List·Memᴰ j (affected T id)
-
-  listed : present (T .nodes) j ≡ true → isRunning (phaseAt T j) ≡ true → hasTarget T j ≡ true → hasTarget (left T id) j ≡ false → Listed
-  listed t r x y = affected-is T id j .1 (record { there = t; other = d; runs = r; has = is-there _ (not-t _ x) }, is-none _ (not-f _ y))
-
-  -- on it exactly if leave_if_changed refuses it now as unchanged, and makes it leave afterwards
-  pub leaves-exactly : Listed ↔ ((leaveReply S T j ≡ Reply.refused Error.Changed) × (leaveReply S (left T id) j ≡ Reply.done))
-  leaves-exactly = (
-    λ m.
-        let (t, e) = affected-is T id j .0 m in
-        let now : leaveReply S T j ≡ Reply.refused Error.Changed = leave-reply T ∙ row-changed _ _ _ .1 (rw (t .there), rw (t .runs), f-not _ (not-none _ (t .has))) in
-        let there : not (present ((left T id) .nodes) j) ≡ false = kept (λ n. not (n .present)) ∙ rw (t .there) in
-        let runs : not (isRunning (phaseAt (left T id) j)) ≡ false = kept (λ n. not (isRunning (n .phase))) ∙ rw (t .runs) in
-        let then : leaveReply S (left T id) j ≡ Reply.done = leave-reply (left T id) ∙ row-done _ _ _ .1 (there, runs, rw e) in
-        (now, then),
-    λ (x, y).
-        let (a, b, c) = row-changed _ _ _ .0 (sym (leave-reply T) ∙ x) in
-        let (u, v, w) = row-done _ _ _ .0 (sym (leave-reply (left T id)) ∙ y) in
-        listed (not-f _ a) (not-f _ b) c w,
-  )
-
-  -- a Loading one: exactly if check_iteration accepts it now, and refuses it afterwards as changed
-  pub checks-exactly : isLoading (phaseAt T j) ≡ true → Listed ↔ ((checkIteration T j ≡ Reply.done) × (checkIteration (left T id) j ≡ Reply.refused Error.Changed))
-  unfolding checkIteration
-  checks-exactly l = (
-    λ m.
-        let (t, e) = affected-is T id j .0 m in (
-          row-done _ _ _ .1 (rw (t .there), rw l, not-none _ (t .has)),
-          row-changed _ _ _ .1 (kept (λ n. not (n .present)) ∙ rw (t .there), kept (λ n. not (isLoading (n .phase))) ∙ rw l, rw e),
-        ),
-    λ (x, y).
-        let (a, b, c) = row-done _ _ _ .0 x in
-        let (u, v, w) = row-changed _ _ _ .0 y in
-        listed (not-f _ a) (loading-running (phaseAt T j) l) (f-not _ c) (rw w),
-  )
-
--- ---- on kernels
+use Rattle.model.proofs.Logic.{Bool, List·Memᴰ, List·Memᴰ·not-nil, Option, _↔_, _∙_, _≡_, _≤_, ap, arith, false, length, none, refl, some, sym, true, ℕ}
+use Rattle.model.specs.{Commands.Command, Commands.step, Drain.mustLeave, Impact.Hit, Impact.ImpactRule, Impact.Predicts, Impact.affected, Impact.impact, Impact.isHit, Impact.kernelImpact, Impact.refusedImpact, Impact.runs, Impact.unlessRefused, Iteration.targetOf, Kernels.asked, Kernels.commanded, Layouts.Layout, Layouts.layOut, Layouts.soundKernel, Layouts.tablesOf, Lifecycle.checkIteration, Lifecycle.leaveTests, Lifecycle.left, Lifecycle.phaseAt, Observers.ids, Records.isLoading, Refusals.Reply, Refusals.first, Resolution.Target, Resolution.target, Resolution.targetList, Sizes.Sizes, Soundness.sound, Tables.Tables, Tables.nodeAt, Tables.present, declared.Error.Error}
+use Rattle.model.proofs.{Laws.Ascending.ascending-at, Laws.Booleans.and-i, Laws.Booleans.and-l, Laws.Booleans.and-r, Laws.Facts.facts, Laws.Facts.of-facts, Laws.Lists.length-keep, Laws.Refusals.Passed, Laws.Refusals.of-passed, Laws.Refusals.passed, Theorems.Drain.Sweep.length-places, Theorems.Impact.Changed.checks-exactly, Theorems.Impact.Changed.done-refused, Theorems.Impact.Changed.leaves-exactly, Theorems.Impact.Hit.affected-ascend, Theorems.Impact.Hit.affected-few, Theorems.Impact.Hit.affected-is, Theorems.Impact.Hit.affected-relies, Theorems.Impact.Hit.unaffected-same, Theorems.Kernels.asked-of, Theorems.Kernels.asked-sound, Theorems.Kernels.asked-unsound, Theorems.Kernels.commanded-accepted, Theorems.Kernels.commanded-refused, Theorems.Kernels.commanded-unsound, Theorems.Layouts.tables-sound, Theorems.Lifecycle.left-sound}
 
 -- done, with the list; or leave's refusal, and nobody
 pub impact-done : (T : Tables) (id : ℕ) → Passed (leaveTests T id) → impact T id ≡ record { reply = Reply.done; hit = affected T id }
-unfolding impactOf
-impact-done T id q = ap (λ (o : Option Error). impactOf o (affected T id)) (of-passed (leaveTests T id) q)
+unfolding unlessRefused
+impact-done T id q = ap (λ (o : Option Error). unlessRefused o (affected T id)) (of-passed (leaveTests T id) q)
 
 pub impact-refused : (T : Tables) (id : ℕ) (e : Error) → first (leaveTests T id) ≡ some e → impact T id ≡ refusedImpact e
-unfolding impactOf
-impact-refused T id e h = ap (λ (o : Option Error). impactOf o (affected T id)) h
+unfolding unlessRefused
+impact-refused T id e h = ap (λ (o : Option Error). unlessRefused o (affected T id)) h
 
 both : {A B : Type 0} (P : A → B → Type 0) {a c : A} {b d : B} → a ≡ c → b ≡ d → P c d → P a b
 both P e f p = rw (e, f) p
@@ -104,12 +20,13 @@ through : {L : Type 0} {A : Type 0} {x y u v a b : A} → L ↔ ((x ≡ a) × (y
 through (to, of) e f = (λ l. let (g, h) = to l in (e ∙ g, f ∙ h), λ (g, h). of (sym e ∙ g, sym f ∙ h))
 
 -- a refusal, and nobody
-foretold-refused : (S : Sizes) (k : Layout) (id : ℕ) (e : Error) → Foretells S k id (refusedImpact e) (record { kernel = k; reply = Reply.refused e })
-foretold-refused S k id e = record {
+predicted-refused : (S : Sizes) (k : Layout) (id : ℕ) (e : Error) → Predicts S k id (refusedImpact e) (record { kernel = k; reply = Reply.refused e })
+predicted-refused S k id e = record {
   replies = refl;
   empty-if-refused = λ f x. refl;
   lists = λ x. done-refused x;
   ascends = λ a b l m. absurd (omega arith);
+  relying = λ j m. absurd (List·Memᴰ·not-nil m);
   few = omega arith;
   others = λ x. done-refused x;
   leaves = λ x. done-refused x;
@@ -170,12 +87,13 @@ module _ (S : Sizes) (k : Layout) (id : ℕ) (h : soundKernel S k ≡ true) (q :
       let same = unaffected-same T id q j d (and-l (present (T .nodes) j) _ w) (and-r (present (T .nodes) j) _ w) f in
       ap targetList (target-after j) ∙ same ∙ sym (ap targetList (target-before j))
 
-  foretold-done : Foretells S k id (record { reply = Reply.done; hit = affected T id }) (record { kernel = after; reply = Reply.done })
-  foretold-done = record {
+  predicted-done : Predicts S k id (record { reply = Reply.done; hit = affected T id }) (record { kernel = after; reply = Reply.done })
+  predicted-done = record {
     replies = refl;
     empty-if-refused = λ e x. done-refused (sym x);
     lists = λ x. hit-is;
     ascends = ascending-at 0 (affected T id) (affected-ascend T id);
+    relying = affected-relies S T sound-before id q;
     few = affected-few S T sound-before id q;
     others = λ x. same-off;
     leaves = λ x j d.
@@ -191,15 +109,15 @@ module _ (S : Sizes) (k : Layout) (id : ℕ) (h : soundKernel S k ≡ true) (q :
 pub impact-rule : ImpactRule
 impact-rule S k id = go (soundKernel S k) refl
   where
-    go : (b : Bool) → soundKernel S k ≡ b → Foretells S k id (kernelImpact S k id) (commanded S k (Command.leave id))
-    go false h = both (Foretells S k id) (asked-unsound S k _ _ h) (commanded-unsound S k (Command.leave id) h) (foretold-refused S k id Error.Damaged)
+    go : (b : Bool) → soundKernel S k ≡ b → Predicts S k id (kernelImpact S k id) (commanded S k (Command.leave id))
+    go false h = both (Predicts S k id) (asked-unsound S k _ _ h) (commanded-unsound S k (Command.leave id) h) (predicted-refused S k id Error.Damaged)
     go true h = tested (first (leaveTests (tablesOf k) id)) refl
       where
-        tested : (o : Option Error) → first (leaveTests (tablesOf k) id) ≡ o → Foretells S k id (kernelImpact S k id) (commanded S k (Command.leave id))
-        tested (some e) x = both (Foretells S k id) (asked-sound S k _ _ h ∙ impact-refused (tablesOf k) id e x) (commanded-refused S k (Command.leave id) e h x) (foretold-refused S k id e)
+        tested : (o : Option Error) → first (leaveTests (tablesOf k) id) ≡ o → Predicts S k id (kernelImpact S k id) (commanded S k (Command.leave id))
+        tested (some e) x = both (Predicts S k id) (asked-sound S k _ _ h ∙ impact-refused (tablesOf k) id e x) (commanded-refused S k (Command.leave id) e h x) (predicted-refused S k id e)
         tested none x =
             let q = passed (leaveTests (tablesOf k) id) x in
-            both (Foretells S k id) (asked-sound S k _ _ h ∙ impact-done (tablesOf k) id q) (commanded-accepted S k (Command.leave id) h q) (foretold-done S k id h q)
+            both (Predicts S k id) (asked-sound S k _ _ h ∙ impact-done (tablesOf k) id q) (commanded-accepted S k (Command.leave id) h q) (predicted-done S k id h q)
 
 -- the list is no longer than there are identities
 affected-within : (S : Sizes) (T : Tables) (id : ℕ) → sound S T ≡ true → length (affected T id) ≤ S .identities
@@ -210,10 +128,10 @@ affected-within S T id h =
     omega (arith, kept, listed, length-keep (λ n. n .present) (T .nodes), facts S T h .sizes .nodes)
 
 pub impact-fits : (S : Sizes) (k : Layout) (id : ℕ) → length ((kernelImpact S k id) .hit) ≤ S .identities
-unfolding impactOf
+unfolding unlessRefused
 impact-fits S k id = go (soundKernel S k) refl
   where
-    within : sound S (tablesOf k) ≡ true → (o : Option Error) → length ((impactOf o (affected (tablesOf k) id)) .hit) ≤ S .identities
+    within : sound S (tablesOf k) ≡ true → (o : Option Error) → length ((unlessRefused o (affected (tablesOf k) id)) .hit) ≤ S .identities
     within h none = affected-within S (tablesOf k) id h
     within h (some e) = omega arith
 

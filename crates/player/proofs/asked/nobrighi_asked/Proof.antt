@@ -1,7 +1,7 @@
--- `player::drains::nobrighi_drains` is safe and ends, what it gives in the buffer: a command takes at least one byte of the log.
+-- `player::asked::nobrighi_asked` is safe and ends, what it gives in the buffer: a command takes at least one byte of the log.
 use Rattle.model.proofs.Logic.{_-_, _≡_, _≤_, arith, length}
-use Rattle.player.proofs.{drains.nobrighi_drains.Statement.statement}
-use Rattle.player.proofs.drains.nobrighi_drains.Tie as tie
+use Rattle.player.proofs.{asked.nobrighi_asked.Statement.statement}
+use Rattle.player.proofs.asked.nobrighi_asked.Tie as tie
 
 abbrev Inv-loop : tie.InvT-loop
 Inv-loop log asked out₀ player₀ answer₀ written₀ index₀ out player answer written index = (length out ≡ length out₀) × (length answer ≡ 1) × (written ≤ length out)
@@ -20,15 +20,15 @@ add-index : tie.Need-add-index Inv-loop μ-loop
 -- the length of a slice fits
 add-index c = omega (arith, start (turn (c .before .before .before .before .before)) .good .0 .0)
 
-pub nobrighi-drains-spec : {M : Type 1} → statement M
-nobrighi-drains-spec = tie.close (tie.spec Inv-loop μ-loop
+pub nobrighi-asked-spec : {M : Type 1} → statement M
+nobrighi-asked-spec = tie.close (tie.spec Inv-loop μ-loop
     (λ c κs. tt)  -- start-requires
     (λ c. omega arith)  -- loop-holds
     (λ c κs. tt)  -- free-requires
     (λ c. omega arith)  -- slice-aggregate-play
     (λ c κs. tt)  -- play-requires
     (λ c. omega arith)  -- array-read-number
-    (λ c κs. tt)  -- drained-if-asked-requires
+    (λ c κs. tt)  -- write-asked-requires
     add-index
     (λ c. omega arith) (λ c. omega arith) (λ c. omega arith)  -- loop-less, loop-again, same-length
     (λ c. omega arith)  -- returns
