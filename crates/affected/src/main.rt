@@ -4,7 +4,7 @@ use kernel::Kernel;
 use model::Answer;
 use text::logs::last_answer;
 use text::logs::line;
-use text::logs::take;
+use text::logs::read_log;
 use text::logs::tell;
 use text::logs::warn;
 use text::made::identity_of;
@@ -30,20 +30,20 @@ fn answered(kernel: Kernel, id: usize) {
 // The first 65,536 bytes of a file, as far as they can be read, played and asked about; of a file that cannot be opened nothing is.
 fn ask_file(name: &[u8], id: usize) {
     let mut log = io::large_buffer();
-    let taken = take(name, &mut log);
-    let n = taken.count;
+    let read = read_log(name, &mut log);
+    let n = read.count;
     let mut answers = io::large_buffer();
     let played = player::play(player::start(), &log[0..n], &mut answers);
     let kernel = played.kernel;
     tell(
         b"affected",
         name,
-        taken,
+        read,
         last_answer(&answers, played.answered),
         b" is answered as far as it was played",
         b" was not played, and nobody is listed",
     );
-    if taken.opened {
+    if read.opened {
         answered(kernel, id);
     }
 }
@@ -73,7 +73,7 @@ fn ask_arguments(i: usize) {
     ask(&name[..n], &word[..m]);
 }
 
-// A log and an identity after another.
+// The arguments by pairs, a log and an identity.
 fn main() {
     let pairs = os::arg_count() / 2;
     let mut i = 0;

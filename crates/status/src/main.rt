@@ -2,7 +2,7 @@
 use text::logs::early;
 use text::logs::last_answer;
 use text::logs::line;
-use text::logs::take;
+use text::logs::read_log;
 use text::logs::warn;
 
 fn cannot_read(name: &[u8]) {
@@ -14,12 +14,12 @@ fn cannot_read(name: &[u8]) {
 // The first 65,536 bytes of a file, played.
 fn show_file(name: &[u8]) {
     let mut log = io::large_buffer();
-    let taken = take(name, &mut log);
-    if !taken.whole {
+    let read = read_log(name, &mut log);
+    if !read.whole {
         cannot_read(name);
         return;
     }
-    let n = taken.count;
+    let n = read.count;
     let mut answers = io::large_buffer();
     let played = player::play(player::start(), &log[0..n], &mut answers);
     let kernel = played.kernel;

@@ -7,7 +7,7 @@ use sizes::STEPS;
 use text::end;
 use text::field;
 use text::logs::last_answer;
-use text::logs::take;
+use text::logs::read_log;
 use text::logs::tell;
 use text::steps::step;
 
@@ -47,19 +47,19 @@ fn drained(player: Player) {
 // The first 65,536 bytes of a file, as far as they can be read, played and drained; of a file that cannot be opened nothing is.
 fn stop_file(name: &[u8]) {
     let mut log = io::large_buffer();
-    let taken = take(name, &mut log);
-    let n = taken.count;
+    let read = read_log(name, &mut log);
+    let n = read.count;
     let mut answers = io::large_buffer();
     let played = player::play(player::start(), &log[0..n], &mut answers);
     tell(
         b"stop",
         name,
-        taken,
+        read,
         last_answer(&answers, played.answered),
         b" is drained as far as it was played",
         b" was not played, and nothing is drained",
     );
-    if taken.opened {
+    if read.opened {
         drained(played);
     }
 }

@@ -1,4 +1,4 @@
-// A log taken from a file, and what is said of one that is played, for the programs.
+// A log read from a file, and what is said of one that is played, for the programs.
 ghost use mathlib.Core.Path.{_≡_};
 ghost use lib.ListN.{length};
 ghost use Prim.Native.Nat.{_≤_};
@@ -74,48 +74,48 @@ pub fn early(out: &mut [u8], at: usize, program: &[u8], name: &[u8], answer: u8)
     loops::at_most(at, out.len())
 }
 
-// What was taken of a file: whether it could be opened, how many bytes were read, and whether it could be read on behind them.
-pub struct Taken {
+// What was read of a file: whether it could be opened, how many bytes there were, and whether it could be read on behind them.
+pub struct LogRead {
     pub opened: bool,
     pub count: usize,
     pub whole: bool,
 }
 
-fn not_opened() -> Taken
+fn not_opened() -> LogRead
     ensures { λ r. ⌜ r .count ≡ 0 ⌝ }
 {
-    Taken {
+    LogRead {
         opened: false,
         count: 0,
         whole: false,
     }
 }
 
-// The first bytes of what is open, as many as there is room for.
-fn read(fd: i32, log: &mut [u8]) -> Taken
+// The first bytes of what is open.
+fn read_open(fd: i32, log: &mut [u8]) -> LogRead
     ensures { λ r. ⌜ r .count ≤ length (now (log .entry)) ⌝ }
 {
     let count = io::read_full(fd, log);
     let mut more = [0u8; 1];
     let behind = libc::read(fd, &mut more);
-    Taken {
+    LogRead {
         opened: true,
         count: count,
         whole: 0 <= behind,
     }
 }
 
-// The first bytes of a file.
-pub fn take(name: &[u8], log: &mut [u8]) -> Taken
+// The first bytes of a file, as many as there is room for.
+pub fn read_log(name: &[u8], log: &mut [u8]) -> LogRead
     ensures { λ r. ⌜ r .count ≤ length (now (log .entry)) ⌝ }
 {
     let fd = os::open_read(name);
     if fd < 0 {
         return not_opened();
     }
-    let taken = read(fd, log);
+    let read = read_open(fd, log);
     libc::close(fd);
-    taken
+    read
 }
 
 // Writes what is gathered to standard error; the next place is the start.
@@ -132,23 +132,16 @@ pub fn warn(out: &[u8], at: usize) -> usize
 pub fn tell(
     program: &[u8],
     name: &[u8],
-    taken: Taken,
+    read: LogRead,
     answer: u8,
     made: &[u8],
     not_played: &[u8],
 ) -> usize
     ensures { λ r. ⌜ r ≡ 0 ⌝ }
 {
-    let opened = taken.opened;
+    let opened = read.opened;
     let mut said = io::large_buffer();
-    let at = line_if(
-        &mut said,
-        0,
-        !taken.whole,
-        program,
-        name,
-        b" cannot be read",
-    );
+    let at = line_if(&mut said, 0, !read.whole, program, name, b" cannot be read");
     let at = early(&mut said, at, program, name, answer);
     let at = line_if(&mut said, at, opened & (0 < at), program, name, made);
     let at = line_if(&mut said, at, !opened, program, name, not_played);
