@@ -1,4 +1,4 @@
--- Who is hit if a component leaves: the list, what asking for it replies, and what is claimed of both. It depends on no size.
+-- Who is hit if a component leaves: the list, which depends on no size; what asking for it replies; and what is claimed of both.
 use mathlib.Core.Path.{_≡_}
 use mathlib.Core.Bool.{Bool, _&&_, false, not, true}
 use mathlib.Core.List.{List, List·Memᴰ, [], _∷_}
@@ -24,6 +24,7 @@ use Rattle.model.specs.Resolution.{isLiveLinkOf, target, targetList}
 use Rattle.model.specs.Sizes.{Sizes}
 use Rattle.model.specs.Tables.{Tables, nodeAt, providing}
 
+-- it has a target, which has no binding if it has no dependency
 abbrev pub hasTarget : Tables → ℕ → Bool
 hasTarget T id = not (isNone (targetList (target T id)))
 
@@ -63,6 +64,7 @@ kernelImpact S k id = asked S k (refusedImpact Error.Damaged) (λ T. impact T id
 abbrev pub runs : Sizes → Layout → ℕ → Bool
 runs S k id = asked S k false (λ T. mustLeave (nodeAt (T .nodes) id))
 
+-- Loading
 abbrev pub loads : Sizes → Layout → ℕ → Bool
 loads S k id = asked S k false (λ T. isLoading (phaseAt T id))
 
@@ -99,7 +101,7 @@ pub record Predicts (S : Sizes) (k : Layout) (id : ℕ) (i : Impact) (o : Comman
 abbrev pub ImpactRule : Type 0
 ImpactRule = (S : Sizes) (k : Layout) (id : ℕ) → Predicts S k id (kernelImpact S k id) (commanded S k (Command.leave id))
 
--- ---- the list told from the links, without the tables after the leave (Theorems/Impact: on sound tables the same list)
+-- ---- the list told from the links, without the tables after the leave: on sound tables the same list (`affected-column`, Theorems/Impact/Links)
 
 -- some live link of this consumer passes
 unfoldable pub linked : (Link → Bool) → List Link → ℕ → Bool

@@ -1,5 +1,6 @@
 // A line read: its name as a place in a row of names, its operands as numbers.
 ghost use lib.ListN.{length};
+ghost use mathlib.Core.Bool.{false};
 ghost use mathlib.Core.Path.{_≡_};
 ghost use Prim.Native.Nat.{_*_, _+_, _≤_};
 ghost use Rattle.loops.specs.Limits.{AtMost};
@@ -116,6 +117,7 @@ fn with_digit(value: u64, digit: u64) -> u64
 pub fn number(word: &[u8]) -> Operand
     ensures { λ r. ⌜ AtMost (withDigits 0 (now (word .entry))) most (r .value) ⌝ }
     ensures { λ r. ⌜ r .known ≡ isNumber (now (word .entry)) ⌝ }
+    ensures { λ r. ⌜ r .none ≡ false ⌝ }
 {
     let mut value = 0;
     let mut known = 0 < word.len();

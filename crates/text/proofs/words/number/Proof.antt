@@ -79,7 +79,7 @@ loop-again c =
     rw e (turned (l .loop .inv) (c .before .before .before .loop-test .taken) (c .with-digit .result) (rw e at (c .with-digit .ensures)))
 
 returns : tie.Need-returns Inv-loop μ-loop
-returns c = (value-is (c .before .loop .inv) (c .loop-test .left), known-is (c .before .loop .inv) (c .loop-test .left))
+returns c = (value-is (c .before .loop .inv) (c .loop-test .left), (known-is (c .before .loop .inv) (c .loop-test .left), refl))
 
 pub number-spec : {M : Type 1} → statement M
 number-spec = tie.close (tie.spec Inv-loop μ-loop
