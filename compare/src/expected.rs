@@ -1,19 +1,21 @@
 //! expected [--answers | --status | --stop] FILE...: what the log player, or with --stop the program `stop`, must print
-//! for each log, by lib.rs's bodies. expected --affected [FILE ID]...: what the program `affected` must print.
+//! for each log, by lib.rs's bodies. expected --affected [FILE ID]...: what the program `affected` must print. expected
+//! --play FILE...: what the program `play` must print.
 // the modules have parts that only the other programs use
 #![allow(dead_code)]
 
 mod calls;
 mod intended;
 mod log;
+mod played;
 mod record;
 mod reference;
 mod sizes;
 mod status;
 mod text;
 
-use log::Next;
-use reference::{drained, hit, Reference};
+use played::{lines, play};
+use reference::{drained, hit};
 
 /// The part that is printed: all, the commands' answers alone, the components' status alone, or the drain and the tables
 /// that it leaves.
@@ -31,6 +33,10 @@ fn main() {
         words[1..].chunks(2).for_each(|pair| affected(&pair[0], pair.get(1).map_or("", |id| id)));
         return;
     }
+    if words.first().is_some_and(|word| word == "--play") {
+        words[1..].iter().for_each(|file| print_played(file, words.len() > 2));
+        return;
+    }
     let (part, files) = match words.split_first() {
         Some((word, files)) if word == "--answers" => (Part::Answers, files),
         Some((word, files)) if word == "--status" => (Part::Status, files),
@@ -40,7 +46,7 @@ fn main() {
     for file in files {
         let log = read(file);
         if part == Part::All {
-            println!("== {}", file.rsplit('/').next().unwrap_or(file));
+            println!("== {}", name(file));
         }
         if part == Part::Stop {
             stop(&log);
@@ -48,6 +54,11 @@ fn main() {
             print(part, &log);
         }
     }
+}
+
+/// A file's name without its folder.
+fn name(file: &str) -> &str {
+    file.rsplit('/').next().unwrap_or(file)
 }
 
 fn read(file: &str) -> Vec<u8> {
@@ -63,11 +74,21 @@ fn fail(file: &str, why: &str) -> ! {
     std::process::exit(1);
 }
 
+/// A line for each command of the first 65,536 bytes, behind one with the name if there are several files; nothing without
+/// a file.
+fn print_played(file: &str, several: bool) {
+    let Ok(log) = std::fs::read(file) else { return };
+    if several {
+        println!("== {}", name(file));
+    }
+    print!("{}", lines(&play(played::read(&log)).0));
+}
+
 /// A line for each command, the tables, and a line for each present component, as far as they are asked for.
 fn print(part: Part, log: &[u8]) {
     let (answers, reference) = play(log);
     if part != Part::Status {
-        answers.iter().enumerate().for_each(|(count, answer)| println!("{count} {answer}"));
+        print!("{}", lines(&answers));
     }
     if part == Part::All {
         println!("{}", text::tables(&reference.record(0, 0, None)));
@@ -101,26 +122,4 @@ fn affected(file: &str, id: &str) {
         2 => println!("refused 2 InvalidState"),
         answer => panic!("leave answers {answer}"),
     }
-}
-
-/// A log's answers, and the kernel that it leaves.
-fn play(log: &[u8]) -> (Vec<u8>, Reference) {
-    let mut reference = Reference::new();
-    let (mut answers, mut at) = (Vec::new(), 0);
-    loop {
-        match log::read(log, at) {
-            Next::End => break,
-            Next::Stop(answer) => {
-                answers.push(answer);
-                break;
-            }
-            Next::Command(command, end) => {
-                let step = reference.play(command);
-                assert!(!step.hides_wrongly(), "command {}: lib.rs answers {}", answers.len(), step.own);
-                answers.push(step.answer);
-                at = end;
-            }
-        }
-    }
-    (answers, reference)
 }

@@ -148,12 +148,17 @@ pub enum Next {
     Stop(u8),
 }
 
+/// How many bytes of operands a command byte has; 0 if it is no command.
+pub fn operands(byte: u8) -> usize {
+    OPERANDS.get(usize::from(byte).wrapping_sub(1)).copied().unwrap_or(0)
+}
+
 pub fn read(log: &[u8], at: usize) -> Next {
     let Some(&byte) = log.get(at) else { return Next::End };
     if !(0x01..=0x10).contains(&byte) {
         return Next::Stop(NO_COMMAND);
     }
-    let end = at + 1 + OPERANDS[byte as usize - 1];
+    let end = at + 1 + operands(byte);
     match log.get(at + 1..end) {
         Some(operands) => Next::Command(Command::from_parts(byte, operands), end),
         None => Next::Stop(CUT),

@@ -1,5 +1,5 @@
 //! logs SEED DIR: writes the log files that the program `replay` plays. logs shift FILE: writes the sample shift. logs
-//! status DIR, logs stop DIR, logs affected DIR: writes those that the programs of these names play.
+//! status DIR, logs stop DIR, logs affected DIR, logs play DIR: writes those that the programs of these names play.
 // the modules have parts that only `run` uses
 #![allow(dead_code)]
 
@@ -8,6 +8,7 @@ mod generator;
 mod guide;
 mod log;
 mod operands;
+mod play_logs;
 mod profile;
 mod random;
 mod scenarios;
@@ -46,12 +47,13 @@ fn named(program: &str) -> Option<Vec<(&'static str, Vec<u8>)>> {
         "status" => Some(status_logs::all().to_vec()),
         "stop" => Some(stop_logs::all().to_vec()),
         "affected" => Some(affected_logs::all().to_vec()),
+        "play" => Some(play_logs::all()),
         _ => None,
     }
 }
 
 fn usage() -> ! {
-    eprintln!("use: logs SEED DIR | logs shift FILE | logs status DIR | logs stop DIR | logs affected DIR");
+    eprintln!("use: logs SEED DIR | shift FILE | status DIR | stop DIR | affected DIR | play DIR");
     std::process::exit(2);
 }
 

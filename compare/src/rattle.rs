@@ -2,6 +2,7 @@
 
 extern "C" {
     fn nobrighi_play(log: *const u8, log_len: usize, answers: *mut u8, answers_len: usize) -> usize;
+    fn nobrighi_print(log: *const u8, log_len: usize, out: *mut u8, out_len: usize) -> usize;
     fn nobrighi_record(
         log: *const u8,
         log_len: usize,
@@ -25,6 +26,12 @@ extern "C" {
 pub fn play(log: &[u8], answers: &mut [u8]) -> usize {
     // SAFETY: the library reads and writes only within the slices whose lengths are given.
     unsafe { nobrighi_play(log.as_ptr(), log.len(), answers.as_mut_ptr(), answers.len()) }
+}
+
+/// Plays a log and writes the lines that are printed of it; the bytes written.
+pub fn print(log: &[u8], out: &mut [u8]) -> usize {
+    // SAFETY: the library reads and writes only within the slices whose lengths are given.
+    unsafe { nobrighi_print(log.as_ptr(), log.len(), out.as_mut_ptr(), out.len()) }
 }
 
 /// The room that the library wants before it plays a further command.

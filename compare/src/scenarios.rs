@@ -261,8 +261,8 @@ fn bytes_of_ports() -> Vec<u8> {
     s.log
 }
 
-/// A log as long as the log player reads: whole commands, then the byte given.
-fn longest(last: &[u8]) -> Vec<u8> {
+/// A log as long as the log player reads: whole commands, then the bytes given.
+pub fn longest(last: &[u8]) -> Vec<u8> {
     let mut s = Script::new();
     let mut key = 0;
     while s.log.len() + 20 + last.len() < LONGEST {

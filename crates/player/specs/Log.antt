@@ -8,6 +8,10 @@ use Rattle.model.specs.declared.Parent.{Parent}
 use Rattle.model.specs.declared.Phase.{Phase}
 use Rattle.model.specs.declared.Port.{Port}
 
+-- so many bytes of a log are played, the rest is ignored
+abbrev pub logLimit : ℕ
+logLimit = 65536
+
 -- how many bytes of operands follow each command byte, from 01 to 10
 abbrev pub lengths : List ℕ
 lengths = 16 ∷ 16 ∷ 1 ∷ 1 ∷ 1 ∷ 1 ∷ 1 ∷ 1 ∷ 1 ∷ 1 ∷ 1 ∷ 0 ∷ 0 ∷ 17 ∷ 17 ∷ 1 ∷ []

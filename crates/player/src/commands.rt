@@ -3,10 +3,10 @@ ghost use lib.ListN.{length};
 ghost use mathlib.Core.List.{[]};
 ghost use mathlib.Core.Path.{_≡_};
 ghost use Prim.Native.Nat.{_≤_};
-ghost use Rattle.kernel.specs.Fields.{kernelOf};
 ghost use Rattle.model.specs.Interface.{portList};
-ghost use Rattle.model.specs.Kernels.{emptyKernel};
-ghost use Rattle.sizes.specs.Sizes.{sizes};
+ghost use Rattle.player.specs.Played.{fresh, withPort};
+ghost use Rattle.player.specs.Played.{addition as additionTo};
+ghost use Rattle.player.specs.Players.{Plays, issuedBy, playerAfter};
 use crate::log;
 use kernel::Kernel;
 use model::InsertAnswer;
@@ -37,8 +37,7 @@ fn empty_list() -> PortList
 
 // The empty kernel, before the log's first byte.
 pub fn start() -> Player
-    ensures { λ r. ⌜ (r .kernel ≡ kernelOf (emptyKernel sizes)) × (r .at ≡ 0) × (r .answered ≡ 0) ⌝ }
-    ensures { λ r. ⌜ (r .dependencies ≡ portList []) × (r .provisions ≡ portList []) × (r .detail ≡ 0) ⌝ }
+    ensures { λ r. ⌜ r ≡ playerAfter fresh [] ⌝ }
 {
     let kernel = Kernel::new();
     let list = empty_list();
@@ -53,12 +52,16 @@ pub fn start() -> Player
 }
 
 // What adding a port answers: 9 if there are 32.
-fn addition(list: PortList) -> u8 {
+fn addition(list: PortList) -> u8
+    ensures { λ r. ⌜ r ≡ additionTo list ⌝ }
+{
     if 32 <= list.count { 9 } else { 0 }
 }
 
 // The port after the others; a list of 32 stays.
-fn added(mut list: PortList, port: Port) -> PortList {
+fn added(mut list: PortList, port: Port) -> PortList
+    ensures { λ r. ⌜ r ≡ withPort list port ⌝ }
+{
     let count = list.count;
     if count < 32 {
         list.ports[count] = port;
@@ -67,7 +70,10 @@ fn added(mut list: PortList, port: Port) -> PortList {
     list
 }
 
-fn issued(answer: InsertAnswer) -> u64 {
+// The identity of an insert that is done, else 0.
+fn issued(answer: InsertAnswer) -> u64
+    ensures { λ r. ⌜ r ≡ issuedBy answer ⌝ }
+{
     match answer {
         InsertAnswer::Done(id) => id as u64,
         InsertAnswer::Refused(_) => 0,
@@ -78,7 +84,8 @@ fn issued(answer: InsertAnswer) -> u64 {
 // of its own, so that the compiler sees which parts of the kernel it hands back unchanged and copies only the others; insert and begin
 // change more than they keep, and hand an unchanged kernel back where they refuse.
 pub fn play(player: Player, log: &[u8], answers: &mut [u8]) -> Player
-    ensures { λ r. ⌜ (r .answered ≤ length (now (answers .entry))) × (player .at ≤ length (now (log .entry)) → r .at ≤ length (now (log .entry))) ⌝ }
+    ensures { λ r. ⌜ Plays player (now (log .entry)) (now (answers .entry)) r (now (answers .exit)) ⌝ }
+    ensures { λ r. ⌜ r .answered ≤ length (now (answers .entry)) ⌝ }
 {
     let mut kernel = player.kernel;
     let mut dependencies = player.dependencies;
@@ -121,25 +128,11 @@ pub fn play(player: Player, log: &[u8], answers: &mut [u8]) -> Player
                 let inserted = outcome.answer;
                 answer = records::insert_answer_number(inserted);
                 detail = issued(inserted);
+                dependencies = empty_list();
+                provisions = empty_list();
                 if answer == 0 {
                     kernel = outcome.kernel;
                 }
-                dependencies.count = 0;
-                provisions.count = 0;
-            }
-            0x0C => {
-                let outcome = kernel.compact_bindings();
-                kernel = outcome.kernel;
-                let compacted = outcome.answer;
-                answer = records::answer_number(compacted);
-                detail = outcome.removed as u64;
-            }
-            0x0D => {
-                let outcome = kernel.compact_declarations();
-                kernel = outcome.kernel;
-                let compacted = outcome.answer;
-                answer = records::answer_number(compacted);
-                detail = outcome.removed as u64;
             }
             0x04 => {
                 let outcome = kernel.begin(id);
@@ -191,6 +184,20 @@ pub fn play(player: Player, log: &[u8], answers: &mut [u8]) -> Player
                 let done = outcome.answer;
                 answer = records::answer_number(done);
             }
+            0x0C => {
+                let outcome = kernel.compact_bindings();
+                kernel = outcome.kernel;
+                let compacted = outcome.answer;
+                answer = records::answer_number(compacted);
+                detail = outcome.removed as u64;
+            }
+            0x0D => {
+                let outcome = kernel.compact_declarations();
+                kernel = outcome.kernel;
+                let compacted = outcome.answer;
+                answer = records::answer_number(compacted);
+                detail = outcome.removed as u64;
+            }
             0x0E => {
                 let outcome = kernel.declare_provision(id, log::port_at(operands, 1));
                 kernel = outcome.kernel;
@@ -208,8 +215,8 @@ pub fn play(player: Player, log: &[u8], answers: &mut [u8]) -> Player
                 kernel = outcome.kernel;
                 let done = outcome.answer;
                 answer = records::answer_number(done);
-                dependencies.count = 0;
-                provisions.count = 0;
+                dependencies = empty_list();
+                provisions = empty_list();
             }
         }
         answers[answered] = answer;

@@ -1,6 +1,9 @@
-// Logs of commands played on the kernel, and the functions exported for Rust: two here, one in asked, one in times.
+// Logs of commands played on the kernel and printed, and the functions exported for Rust: three here, one in asked, one in times.
 ghost use lib.ListN.{length};
 ghost use Prim.Native.Nat.{_≤_};
+ghost use Rattle.player.specs.Played.{answersOf, fresh, turns};
+ghost use Rattle.player.specs.Printed.{printed};
+ghost use Rattle.text.specs.Written.{Puts};
 
 mod asked;
 mod commands;
@@ -8,6 +11,7 @@ mod drains;
 mod lists;
 mod log;
 mod observe;
+mod printing;
 pub mod put;
 mod tables;
 mod times;
@@ -16,14 +20,25 @@ pub use commands::Player;
 pub use commands::play;
 pub use commands::start;
 pub use drains::play_drain;
+pub use printing::lines;
+pub use printing::lines_buffer;
+pub use printing::print;
 
-// Plays the log from the empty kernel; answers[i] is the i-th answer. Gives how many were written.
+// Plays all of the log from the empty kernel; answers[i] is the i-th answer. Gives how many were written.
 #[no_mangle]
 pub extern "C" fn nobrighi_play(log: &[u8], answers: &mut [u8]) -> usize
-    ensures { λ r. ⌜ r ≤ length (now (answers .entry)) ⌝ }
+    ensures { λ r. ⌜ Puts (answersOf (turns fresh (now (log .entry)))) (now (answers .entry)) 0 (now (answers .exit)) r ⌝ }
 {
     let played = play(start(), log, answers);
     played.answered
+}
+
+// Writes what is printed of the log's first 65,536 bytes. Gives how many bytes were written.
+#[no_mangle]
+pub extern "C" fn nobrighi_print(log: &[u8], out: &mut [u8]) -> usize
+    ensures { λ r. ⌜ Puts (printed (now (log .entry))) (now (out .entry)) 0 (now (out .exit)) r ⌝ }
+{
+    print(log, out)
 }
 
 // One record: the answer, the detail and the tables, then the observers' answers if this command has a question.

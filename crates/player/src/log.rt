@@ -6,6 +6,9 @@ ghost use Rattle.player.specs.Log.{numberAt, operandLength, parentOf, po
 use model::Parent;
 use model::Port;
 
+// So many bytes of a log are played.
+pub const LIMIT: usize = 65536;
+
 // The operand length of each command, by its byte less one.
 const LENGTHS: [usize; 16] = [16, 16, 1, 1, 1, 1, 1, 1, 1, 1, 1, 0, 0, 17, 17, 1];
 

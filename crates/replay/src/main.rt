@@ -1,9 +1,6 @@
 // Plays logs of commands: an answer on a line for each command, then the tables, then a line for each present component.
 use libc::STDERR_FILENO;
 use libc::STDIN_FILENO;
-use text::end;
-use text::field;
-use text::number;
 
 fn cannot_read(name: &[u8]) {
     io::write_all(STDERR_FILENO, b"replay: cannot read ");
@@ -11,25 +8,11 @@ fn cannot_read(name: &[u8]) {
     io::write_all(STDERR_FILENO, b"\n");
 }
 
-// An answer's count from 0 and its number.
-fn answer(out: &mut [u8], at: usize, index: usize, answer: u8) -> usize {
-    let at = number(out, at, index as u64);
-    let at = field(out, at, answer as u64);
-    end(out, at)
-}
-
-// A line for each answer.
-fn answers(out: &mut [u8], answers: &[u8], count: usize) -> usize {
-    let mut at = 0;
-    let mut i = 0;
-    while i < answers.len() {
-        if count <= i {
-            break;
-        }
-        at = answer(out, at, i, answers[i]);
-        i += 1;
-    }
-    at
+// Writes a line for each of the first answers.
+fn write_answers(answers: &[u8], count: usize) {
+    let mut lines = player::lines_buffer();
+    let n = player::lines(&mut lines, answers, count);
+    text::flush(&lines, n);
 }
 
 // Plays the first 65,536 bytes of what is open.
@@ -44,9 +27,9 @@ fn replay(fd: i32, name: &[u8]) {
     let mut given = io::large_buffer();
     let played = player::play(player::start(), &log[..n], &mut given);
     let kernel = played.kernel;
+    write_answers(&given, played.answered);
     let mut out = io::large_buffer();
-    let at = answers(&mut out, &given, played.answered);
-    let at = text::stored::tables(&mut out, at, kernel);
+    let at = text::stored::tables(&mut out, 0, kernel);
     let at = text::status::components(&mut out, at, kernel);
     text::flush(&out, at);
 }

@@ -1,3 +1,4 @@
 pub mod Logs
 pub mod Made
 pub mod Words
+pub mod Written

@@ -2,7 +2,9 @@
 // Each function that writes gives the place after what it put, at most the length; a byte past the end is left out.
 ghost use lib.ListN.{length};
 ghost use mathlib.Core.Path.{_≡_};
+ghost use mathlib.Core.List.{_∷_};
 ghost use Prim.Native.Nat.{_≤_};
+ghost use Rattle.text.specs.Written.{Puts, decimal};
 
 pub mod answers;
 pub mod logs;
@@ -26,6 +28,7 @@ pub fn flush(out: &[u8], at: usize) -> usize
 
 pub fn bytes(out: &mut [u8], at: usize, bytes: &[u8]) -> usize
     ensures { λ r. ⌜ r ≤ length (now (out .entry)) ⌝ }
+    ensures { λ r. ⌜ Puts (now (bytes .entry)) (now (out .entry)) at (now (out .exit)) r ⌝ }
 {
     let mut at = loops::at_most(at, out.len());
     let mut i = 0;
@@ -42,6 +45,7 @@ pub fn bytes(out: &mut [u8], at: usize, bytes: &[u8]) -> usize
 
 pub fn number(out: &mut [u8], at: usize, n: u64) -> usize
     ensures { λ r. ⌜ r ≤ length (now (out .entry)) ⌝ }
+    ensures { λ r. ⌜ Puts (decimal n) (now (out .entry)) at (now (out .exit)) r ⌝ }
 {
     let mut digits = [0u8; 20];
     let k = io::decimal(n, &mut digits);
@@ -51,6 +55,7 @@ pub fn number(out: &mut [u8], at: usize, n: u64) -> usize
 // A space and a number.
 pub fn field(out: &mut [u8], at: usize, n: u64) -> usize
     ensures { λ r. ⌜ r ≤ length (now (out .entry)) ⌝ }
+    ensures { λ r. ⌜ Puts (32 ∷ decimal n) (now (out .entry)) at (now (out .exit)) r ⌝ }
 {
     let at = bytes(out, at, b" ");
     number(out, at, n)

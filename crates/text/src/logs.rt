@@ -74,7 +74,7 @@ pub fn early(out: &mut [u8], at: usize, program: &[u8], name: &[u8], answer: u8)
     loops::at_most(at, out.len())
 }
 
-// What was read of a file: whether it could be opened, how many bytes there were, and whether it could be read on behind them.
+// What was read of a file: whether it could be opened, how many bytes there were, and whether it could be read to its end or until there was no room.
 pub struct LogRead {
     pub opened: bool,
     pub count: usize,
@@ -92,10 +92,17 @@ fn not_opened() -> LogRead
 }
 
 // The first bytes of what is open.
-fn read_open(fd: i32, log: &mut [u8]) -> LogRead
+pub fn read_open(fd: i32, log: &mut [u8]) -> LogRead
     ensures { λ r. ⌜ r .count ≤ length (now (log .entry)) ⌝ }
 {
     let count = io::read_full(fd, log);
+    if count == log.len() {
+        return LogRead {
+            opened: true,
+            count: count,
+            whole: true,
+        };
+    }
     let mut more = [0u8; 1];
     let behind = libc::read(fd, &mut more);
     LogRead {

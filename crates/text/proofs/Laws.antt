@@ -1,0 +1,2 @@
+-- Laws of text in a buffer.
+pub mod Written
