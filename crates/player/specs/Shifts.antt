@@ -13,7 +13,9 @@ use Rattle.model.specs.Iteration.{RuleAt}
 use Rattle.model.specs.Lists.{keep}
 use Rattle.player.specs.Log.{logLimit}
 use Rattle.player.specs.Played.{Item, State, Turn, decoded, fresh, isLast, played, stateAfter, taken, turns}
-use Rattle.player.specs.Printed.{printed}
+use Rattle.player.specs.Players.{Plays, playerAfter}
+use Rattle.player.specs.Printed.{linesFrom, printed}
+use Rattle.player.specs.declared.commands.Player.{Player}
 use Rattle.sizes.specs.Sizes.{sizes}
 
 -- ---- the kernel
@@ -31,6 +33,12 @@ pub record Shift (ts : List Turn) : Type 0 where
 abbrev pub EveryShift : Type 0
 EveryShift = (log : List ℕ) (n : ℕ) → Shift (take n (turns fresh log))
 
+-- what `play` leaves of the player before the first byte, when there is room for so many answers
+abbrev pub PlayLeaves : Type 0
+PlayLeaves =
+    (log answers : List ℕ) (r : Player) (answers′ : List ℕ) →
+    Plays (playerAfter fresh []) log answers r answers′ → r .kernel ≡ reachedBy (decoded (take (length answers) (turns fresh log)))
+
 -- ---- the lines
 
 -- a line has at most 9 bytes: five digits, a space, two digits, its end
@@ -47,12 +55,16 @@ pub record Lines (log : List ℕ) : Type 0 where
 abbrev pub EveryLine : Type 0
 EveryLine = (log : List ℕ) → Lines log
 
--- a log cut anywhere: the first answers of the whole, and at most one 12
+-- a log cut anywhere: the first answers of the whole and at most one 12, and so the first lines of the whole and at most one of a 12
 pub record Cut (log : List ℕ) (n : ℕ) : Type 0 where
-  pub same : ℕ
+  pub first : List ℕ
+  pub rest : List ℕ
   pub more : List ℕ
-  pub answers : played (take n log) ≡ take same (played log) ++ more
+  pub whole : played log ≡ first ++ rest
+  pub answers : played (take n log) ≡ first ++ more
   pub twelve : (more ≡ []) ⊎ (more ≡ 12 ∷ [])
+  pub whole-lines : printed log ≡ linesFrom 0 first ++ linesFrom (length first) rest
+  pub lines : printed (take n log) ≡ linesFrom 0 first ++ linesFrom (length first) more
 
 abbrev pub CutAnywhere : Type 0
 CutAnywhere = (log : List ℕ) (n : ℕ) → Cut log n

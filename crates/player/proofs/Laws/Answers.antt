@@ -45,17 +45,25 @@ written-back xs out {out′} {n} l (w, e) =
 
 -- ---- lines
 
--- one line more
-lines-snoc : (k : ℕ) (xs : List ℕ) (a : ℕ) → linesFrom k (xs ++ (a ∷ [])) ≡ linesFrom k xs ++ line (k + length xs) a
+-- lines behind lines
+pub lines-append : (k : ℕ) (xs ys : List ℕ) → linesFrom k (xs ++ ys) ≡ linesFrom k xs ++ linesFrom (k + length xs) ys
 unfolding linesFrom
-lines-snoc k [] a = let e : k ≡ k + 0 = omega arith in append-nil (line k a) ∙ ap (λ (n : ℕ). line n a) e
-lines-snoc k (x ∷ xs) a =
+lines-append k [] ys = let e : k ≡ k + 0 = omega arith in ap (λ (n : ℕ). linesFrom n ys) e
+lines-append k (x ∷ xs) ys =
     let e : suc k + length xs ≡ k + suc (length xs) = omega arith in
-    ap (λ (ys : List ℕ). line k x ++ ys) (lines-snoc (suc k) xs a)
-    ∙ sym (append-assoc (line k x) (linesFrom (suc k) xs) (line (suc k + length xs) a))
-    ∙ ap (λ (n : ℕ). (line k x ++ linesFrom (suc k) xs) ++ line n a) e
+    ap (λ (zs : List ℕ). line k x ++ zs) (lines-append (suc k) xs ys)
+    ∙ sym (append-assoc (line k x) (linesFrom (suc k) xs) (linesFrom (suc k + length xs) ys))
+    ∙ ap (λ (n : ℕ). (line k x ++ linesFrom (suc k) xs) ++ linesFrom n ys) e
+
+-- one line more
+line-alone : (k a : ℕ) → linesFrom k (a ∷ []) ≡ line k a
+unfolding linesFrom
+line-alone k a = append-nil (line k a)
 
 pub lines-next : (xs : List ℕ) (i : ℕ) → i < length xs → linesFrom 0 (take (i + 1) xs) ≡ linesFrom 0 (take i xs) ++ line i (getD xs i 0)
 lines-next xs i l =
     let size : 0 + length (take i xs) ≡ i = omega (arith, length-take i xs) in
-    ap (linesFrom 0) (ap (λ (n : ℕ). take n xs) (add-one i) ∙ take-suc xs i 0 l) ∙ lines-snoc 0 (take i xs) (getD xs i 0) ∙ ap (λ (n : ℕ). linesFrom 0 (take i xs) ++ line n (getD xs i 0)) size
+    ap (linesFrom 0) (ap (λ (n : ℕ). take n xs) (add-one i) ∙ take-suc xs i 0 l)
+    ∙ lines-append 0 (take i xs) (getD xs i 0 ∷ [])
+    ∙ ap (λ (n : ℕ). linesFrom 0 (take i xs) ++ linesFrom n (getD xs i 0 ∷ [])) size
+    ∙ ap (λ (ys : List ℕ). linesFrom 0 (take i xs) ++ ys) (line-alone i (getD xs i 0))

@@ -1,11 +1,11 @@
 -- Of every log: which numbers its items answer, what kernel its commands leave, what it answers if it is cut, how long its lines are.
-use Rattle.model.proofs.Logic.{Bool, List, [], _*_, _++_, _+_, _∷_, _≡_, _≤_, _⊎_, ap, arith, cond, false, inl, inr, le-ltb, length, length-append, length-map, length-take, ltb, ltb-false, refl, suc, take, true, zero, ℕ, ⊎-elim}
+use Rattle.model.proofs.Logic.{Bool, List, [], _*_, _++_, _+_, _∙_, _∷_, _≡_, _≤_, _⊎_, ap, arith, cond, drop, false, inl, inr, le-ltb, length, length-append, length-map, length-take, ltb, ltb-false, refl, suc, sym, take, take-append-drop, true, zero, ℕ, ⊎-elim}
 use lib.Seq.{take-nil, take-take}
 use Rattle.kernel.specs.{Fields.kernelOf, Fields.layoutOf, declared.Kernel.Kernel}
 use Rattle.kernel.proofs.{Theorems.Reached.demand-1, Theorems.Reached.demand-3, Theorems.Reached.reached-kernels-sound}
 use Rattle.model.specs.{Commands.Command, Kernels.commanded, Kernels.kernelFrom, Refusals.replyNumber, declared.PortList.PortList}
-use Rattle.player.specs.{Log.logLimit, Log.operandLength, Played.Item, Played.State, Played.Turn, Played.addition, Played.answersOf, Played.decoded, Played.fresh, Played.isFull, Played.isLast, Played.isUnknown, Played.item, Played.played, Played.stateAfter, Played.taken, Played.turn, Played.turns, Played.turnsFrom, Printed.linesFrom, Shifts.CutAnywhere, Shifts.EveryLine, Shifts.EveryShift, Shifts.NumbersApart, Shifts.lineLimit}
-use Rattle.player.proofs.{Laws.Shifts.length-line, Laws.Shifts.line-ends, Laws.Shifts.take-swap}
+use Rattle.player.specs.{Log.logLimit, Log.operandLength, Played.Item, Played.State, Played.Turn, Played.addition, Played.answersOf, Played.decoded, Played.fresh, Played.isFull, Played.isLast, Played.isUnknown, Played.item, Played.played, Played.stateAfter, Played.taken, Played.turn, Played.turns, Played.turnsFrom, Printed.linesFrom, Shifts.CutAnywhere, Shifts.EveryLine, Shifts.EveryShift, Shifts.NumbersApart, Shifts.PlayLeaves, Shifts.lineLimit, declared.commands.Player.Player}
+use Rattle.player.proofs.{Laws.Answers.lines-append, Laws.Shifts.length-line, Laws.Shifts.line-ends, Laws.Shifts.take-swap}
 use Rattle.sizes.specs.{Sizes.sizes}
 
 -- ---- the numbers
@@ -65,6 +65,10 @@ every-shift log n =
     let e = turns-along fresh n 0 log in
     record { reached = e; sound = rw e (reached-kernels-sound cs .0); rule = λ id. rw e (demand-3 cs id) }
 
+pub play-leaves : PlayLeaves
+unfolding stateAfter
+play-leaves log answers r answers′ (e, w) = ap (λ (p : Player). p .kernel) e ∙ every-shift log (length answers) .reached
+
 -- ---- a cut
 
 -- the first answers of the whole, and at most one 12
@@ -109,10 +113,26 @@ turns-cut s zero (suc n) (byte ∷ bytes) = go (item-cut s byte n bytes) (λ r. 
     go (inl e) f = rw e (turn-cut (turn s byte bytes) (operandLength byte) n bytes (f _))
     go (inr e) f = rw e (0, 12 ∷ [], refl, inr refl)
 
+behind-first : (xs ys : List ℕ) → linesFrom 0 (xs ++ ys) ≡ linesFrom 0 xs ++ linesFrom (length xs) ys
+behind-first xs ys = let e : 0 + length xs ≡ length xs = omega arith in lines-append 0 xs ys ∙ ap (λ (n : ℕ). linesFrom 0 xs ++ linesFrom n ys) e
+
 pub cut-anywhere : CutAnywhere
 cut-anywhere log n =
     let (same, more, e, twelve) = turns-cut fresh 0 n (take logLimit log) in
-    record { same = same; more = more; answers = rw (take-swap logLimit n log) e; twelve = twelve }
+    let first = take same (played log) in
+    let rest = drop same (played log) in
+    let whole : played log ≡ first ++ rest = sym (take-append-drop same (played log)) in
+    let answers : played (take n log) ≡ first ++ more = rw (take-swap logLimit n log) e in
+    record {
+      first = first;
+      rest = rest;
+      more = more;
+      whole = whole;
+      answers = answers;
+      twelve = twelve;
+      whole-lines = ap (linesFrom 0) whole ∙ behind-first first rest;
+      lines = ap (linesFrom 0) answers ∙ behind-first first more;
+    }
 
 -- ---- the lines
 
