@@ -1,8 +1,8 @@
 // Text gathered in a buffer and written when little of it is free: numbers, records, tables and answers; and lines read.
 // Each function that writes gives the place after what it put, at most the length; a byte past the end is left out.
 ghost use lib.ListN.{length};
-ghost use mathlib.Core.Path.{_≡_};
 ghost use mathlib.Core.List.{_∷_};
+ghost use mathlib.Core.Path.{_≡_};
 ghost use Prim.Native.Nat.{_≤_};
 ghost use Rattle.text.specs.Written.{Puts, decimal};
 
