@@ -94,6 +94,10 @@ withPort l p = cond (isFull l) l (record { ports = set (l .ports) (l .count) p; 
 unfoldable pub addition : PortList → ℕ
 addition l = cond (isFull l) 9 0
 
+-- nothing below the count
+abbrev pub emptied : PortList → PortList
+emptied l = record { ports = l .ports; count = 0 }
+
 -- a command's identity or count
 abbrev pub detailOf : Reply → ℕ
 detailOf Reply.done = 0
@@ -114,7 +118,7 @@ unfoldable pub taken : State → ℕ → Item → Turn
 taken s n (Item.dependency p) = record { item = Item.dependency p; answer = addition (s .dependencies); detail = 0; after = on s n (s .kernel) (withPort (s .dependencies) p) (s .provisions) }
 taken s n (Item.provision p) = record { item = Item.provision p; answer = addition (s .provisions); detail = 0; after = on s n (s .kernel) (s .dependencies) (withPort (s .provisions) p) }
 taken s n (Item.plain c) = commandTurn s n (Item.plain c) (command (s .kernel) c) (s .dependencies) (s .provisions)
-taken s n (Item.listing c) = commandTurn s n (Item.listing c) (command (s .kernel) c) (portList []) (portList [])
+taken s n (Item.listing c) = commandTurn s n (Item.listing c) (command (s .kernel) c) (emptied (s .dependencies)) (emptied (s .provisions))
 taken s n Item.unknown = record { item = Item.unknown; answer = 11; detail = 0; after = s }
 taken s n Item.cut = record { item = Item.cut; answer = 12; detail = 0; after = s }
 

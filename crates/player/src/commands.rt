@@ -128,8 +128,8 @@ pub fn play(player: Player, log: &[u8], answers: &mut [u8]) -> Player
                 let inserted = outcome.answer;
                 answer = records::insert_answer_number(inserted);
                 detail = issued(inserted);
-                dependencies = empty_list();
-                provisions = empty_list();
+                dependencies.count = 0;
+                provisions.count = 0;
                 if answer == 0 {
                     kernel = outcome.kernel;
                 }
@@ -215,8 +215,8 @@ pub fn play(player: Player, log: &[u8], answers: &mut [u8]) -> Player
                 kernel = outcome.kernel;
                 let done = outcome.answer;
                 answer = records::answer_number(done);
-                dependencies = empty_list();
-                provisions = empty_list();
+                dependencies.count = 0;
+                provisions.count = 0;
             }
         }
         answers[answered] = answer;

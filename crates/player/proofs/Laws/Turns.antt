@@ -1,9 +1,9 @@
 -- A turn of the player's loop: what each kind of arm gives is the turn of the bytes that it read.
-use Rattle.model.proofs.Logic.{Bool, List, [], _-_, _<_, _∙_, _≡_, _≤_, ap, arith, cond, false, getD, le-ltb, length, lt-ltb, ltb, ltb-false, refl, suc, sym, take, true, zero, ℕ}
+use Rattle.model.proofs.Logic.{Bool, List, _-_, _<_, _∙_, _≡_, _≤_, ap, arith, cond, false, getD, le-ltb, length, lt-ltb, ltb, ltb-false, refl, suc, sym, take, true, zero, ℕ}
 use Rattle.kernel.specs.{Fields.layoutOf, Outcomes.CompactionReturns, Outcomes.Handed, Outcomes.InsertReturns, Outcomes.Returns, Outcomes.command, declared.CompactionOutcome.CompactionOutcome, declared.InsertOutcome.InsertOutcome, declared.Kernel.Kernel, declared.Outcome.Outcome}
-use Rattle.model.specs.{Answers.answerNumber, Answers.insertAnswer, Answers.insertAnswerNumber, Answers.removedCount, Commands.Command, Commands.Step, Commands.report, Commands.step, Interface.portList, Kernels.asked, Kernels.commanded, Layouts.soundKernel, Layouts.tablesOf, Refusals.Reply, Tables.Tables, declared.Error.Error, declared.Port.Port, declared.PortList.PortList}
+use Rattle.model.specs.{Answers.answerNumber, Answers.insertAnswer, Answers.insertAnswerNumber, Answers.removedCount, Commands.Command, Commands.Step, Commands.report, Commands.step, Kernels.asked, Kernels.commanded, Layouts.soundKernel, Layouts.tablesOf, Refusals.Reply, Tables.Tables, declared.Error.Error, declared.Port.Port, declared.PortList.PortList}
 use Rattle.model.proofs.{Laws.Booleans.or-f-l, Laws.Booleans.or-f-r, Laws.Refusals.step-cases}
-use Rattle.player.specs.{Log.operandLength, Played.Item, Played.State, Played.Turn, Played.addition, Played.detailOf, Played.isLast, Played.isUnknown, Played.item, Played.meanings, Played.on, Played.taken, Played.turn, Played.withPort, Players.issuedBy}
+use Rattle.player.specs.{Log.operandLength, Played.Item, Played.State, Played.Turn, Played.addition, Played.detailOf, Played.emptied, Played.isLast, Played.isUnknown, Played.item, Played.meanings, Played.on, Played.taken, Played.turn, Played.withPort, Players.issuedBy}
 use Rattle.sizes.specs.{Sizes.sizes}
 
 -- ---- what a command replies besides its answer
@@ -130,7 +130,9 @@ module _ (s : State) (byte : ℕ) (rest : List ℕ) where
       plain-steps d e x y = let kernel = q ∙ H .0 in stepping e refl (λ i. on s (suc (operandLength byte)) (kernel i) (x i) (y i)) d (a ∙ H .1)
 
       -- one with the pending lists
-      listing-steps : detail ≡ detailOf ((command (s .kernel) c) .reply) → item s byte rest ≡ Item.listing c → ds ≡ portList [] → ps ≡ portList [] → Steps k ds ps detail answer
+      listing-steps :
+          detail ≡ detailOf ((command (s .kernel) c) .reply) → item s byte rest ≡ Item.listing c → ds ≡ emptied (s .dependencies) → ps ≡ emptied (s .provisions) →
+          Steps k ds ps detail answer
       unfolding taken
       listing-steps d e x y = let kernel = q ∙ H .0 in stepping e refl (λ i. on s (suc (operandLength byte)) (kernel i) (x i) (y i)) d (a ∙ H .1)
 
@@ -143,16 +145,16 @@ module _ (s : State) (byte : ℕ) (rest : List ℕ) where
       pub plain-kept : item s byte rest ≡ Item.plain c → (answer ≡ 0 → ⊥) → k ≡ s .kernel → ds ≡ s .dependencies → ps ≡ s .provisions → Steps k ds ps detail answer
       plain-kept e r q x y = plain-done e (q ∙ sym (R .1 .2 (λ h. r (a ∙ h)))) x y
 
-      pub listing-done : item s byte rest ≡ Item.listing c → k ≡ o .kernel → ds ≡ portList [] → ps ≡ portList [] → Steps k ds ps detail answer
+      pub listing-done : item s byte rest ≡ Item.listing c → k ≡ o .kernel → ds ≡ emptied (s .dependencies) → ps ≡ emptied (s .provisions) → Steps k ds ps detail answer
       listing-done e q x y = listing-steps c (R .1) q a (d ∙ none-told (s .kernel) c g) e x y
 
     -- an insert
     module _ (c : Command) (g : Tells (λ r. issuedBy (insertAnswer r)) c) {o : InsertOutcome} (R : InsertReturns (s .kernel) c o)
         (a : answer ≡ insertAnswerNumber (o .answer)) (d : detail ≡ issuedBy (o .answer)) where
-      pub insert-done : item s byte rest ≡ Item.listing c → k ≡ o .kernel → ds ≡ portList [] → ps ≡ portList [] → Steps k ds ps detail answer
+      pub insert-done : item s byte rest ≡ Item.listing c → k ≡ o .kernel → ds ≡ emptied (s .dependencies) → ps ≡ emptied (s .provisions) → Steps k ds ps detail answer
       insert-done e q x y = listing-steps c (R .1) q a (d ∙ issued-told (s .kernel) c g R) e x y
 
-      pub insert-kept : item s byte rest ≡ Item.listing c → (answer ≡ 0 → ⊥) → k ≡ s .kernel → ds ≡ portList [] → ps ≡ portList [] → Steps k ds ps detail answer
+      pub insert-kept : item s byte rest ≡ Item.listing c → (answer ≡ 0 → ⊥) → k ≡ s .kernel → ds ≡ emptied (s .dependencies) → ps ≡ emptied (s .provisions) → Steps k ds ps detail answer
       insert-kept e r q x y = insert-done e (q ∙ sym (R .1 .2 (λ h. r (a ∙ h)))) x y
 
     -- a compaction

@@ -85,12 +85,12 @@ arm c =
     (w .4) (w .5) (w .6 ∙ w .3 .ensures) (w .7) (w .8 ∙ w .1 .ensures))
     (⊎-elim
     (λ w. insert-done s b rest (insert (w .1 .result)) (λ T. refl) (w .2 .ensures)
-    (w .13 ∙ w .3 .ensures) (w .12 ∙ w .4 .ensures) (inserts (w .0 .keys3) (w .1 .result) (w .1 .ensures))
-    (w .9) (w .10 ∙ w .5 .ensures) (w .11 ∙ w .6 .ensures))
+    (w .11 ∙ w .3 .ensures) (w .10 ∙ w .4 .ensures) (inserts (w .0 .keys3) (w .1 .result) (w .1 .ensures))
+    (w .7) (w .8) (w .9))
     (⊎-elim
     (λ w. insert-kept s b rest (insert (w .1 .result)) (λ T. refl) (w .2 .ensures)
-    (w .12 ∙ w .3 .ensures) (w .11 ∙ w .4 .ensures) (inserts (w .0 .keys3) (w .1 .result) (w .1 .ensures))
-    (λ z. w .7 .left (sym (w .12) ∙ z)) (w .8) (w .9 ∙ w .5 .ensures) (w .10 ∙ w .6 .ensures))
+    (w .10 ∙ w .3 .ensures) (w .9 ∙ w .4 .ensures) (inserts (w .0 .keys3) (w .1 .result) (w .1 .ensures))
+    (λ z. w .5 .left (sym (w .10) ∙ z)) (w .6) (w .7) (w .8))
     (⊎-elim
     (λ w. plain-done s b rest (Command.begin id) (λ T. refl) (w .1 .ensures)
     (w .9 ∙ w .2 .ensures) (w .8) (meant 4 (w .0 .keys4) ∙ of (λ n. Item.plain (Command.begin n)))
@@ -144,9 +144,9 @@ arm c =
     (w .9 ∙ w .4 .ensures) (w .8) (meant 15 (w .0 .keys15) ∙ with-port Command.releaseProvision (w .1 .result) (w .1 .ensures))
     (w .5) (w .6) (w .7))
     (λ w. listing-done s b rest (Command.configurePendingDependencies id (s .dependencies)) (λ T. refl) (w .1 .ensures)
-    (w .10 ∙ w .3 .ensures) (w .9)
+    (w .8 ∙ w .3 .ensures) (w .7)
     (meant 16 (sixteenth b (o .before .before .if2 .left) (w .0 .rest)) ∙ of (λ n. Item.listing (Command.configurePendingDependencies n (s .dependencies))))
-    (w .6) (w .7 ∙ w .4 .ensures) (w .8 ∙ w .5 .ensures))))))))))))))))))
+    (w .4) (w .5) (w .6))))))))))))))))))
     (c .match .came)
 
 loop-again : tie.Need-loop-again Inv-loop μ-loop
@@ -196,8 +196,6 @@ play-spec = tie.close (tie.spec Inv-loop μ-loop
     (λ c κs. tt)  -- insert-requires
     (λ c κs. tt)  -- insert-answer-number-requires
     (λ c κs. tt)  -- issued-requires
-    (λ c κs. tt)  -- empty-list-requires
-    (λ c κs. tt)  -- empty-list-requires-2
     (λ c κs. tt)  -- begin-requires
     (λ c κs. tt)  -- answer-number-requires
     (λ c κs. tt)  -- finish-requires
@@ -226,8 +224,6 @@ play-spec = tie.close (tie.spec Inv-loop μ-loop
     (λ c κs. tt)  -- answer-number-requires-12
     (λ c κs. tt)  -- configure-pending-dependencies-requires
     (λ c κs. tt)  -- answer-number-requires-13
-    (λ c κs. tt)  -- empty-list-requires-3
-    (λ c κs. tt)  -- empty-list-requires-4
     (λ c. omega arith) (λ c. omega arith) (λ c. omega arith) (λ c. omega arith) (λ c. omega arith)  -- slice-write-answers-3, add-answered-3, add-at, add-at-2, loop-less
     loop-again
     (λ c. omega arith)  -- same-length
