@@ -1,5 +1,6 @@
 //! logs SEED DIR: writes the log files that the program `replay` plays. logs shift FILE: writes the sample shift. logs
-//! status DIR, logs stop DIR, logs affected DIR, logs play DIR: writes those that the programs of these names play.
+//! status DIR, logs stop DIR, logs affected DIR, logs why DIR, logs play DIR: writes those that the programs of these
+//! names play.
 // the modules have parts that only `run` uses
 #![allow(dead_code)]
 
@@ -17,6 +18,7 @@ mod sizes;
 mod status_logs;
 mod steps;
 mod stop_logs;
+mod why_logs;
 
 use random::Random;
 
@@ -47,13 +49,14 @@ fn named(program: &str) -> Option<Vec<(&'static str, Vec<u8>)>> {
         "status" => Some(status_logs::all().to_vec()),
         "stop" => Some(stop_logs::all().to_vec()),
         "affected" => Some(affected_logs::all().to_vec()),
+        "why" => Some(why_logs::all()),
         "play" => Some(play_logs::all()),
         _ => None,
     }
 }
 
 fn usage() -> ! {
-    eprintln!("use: logs SEED DIR | shift FILE | status DIR | stop DIR | affected DIR | play DIR");
+    eprintln!("use: logs SEED DIR | shift FILE | status DIR | stop DIR | affected DIR | why DIR | play DIR");
     std::process::exit(2);
 }
 

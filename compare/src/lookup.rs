@@ -4,7 +4,7 @@ use super::{Kernel, Phase, Port};
 use crate::record::{Lookup, Missing};
 
 /// The present owner that provides a port, in whatever phase.
-fn owner(kernel: &Kernel, port: Port) -> Option<usize> {
+pub fn owner(kernel: &Kernel, port: Port) -> Option<usize> {
     let provisions = kernel.declarations.iter().filter(|d| d.provides && d.port == port);
     provisions.map(|d| d.owner).find(|&owner| kernel.nodes[owner].present)
 }

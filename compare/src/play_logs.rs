@@ -125,7 +125,7 @@ fn longer() -> Vec<u8> {
 }
 
 /// A declare with nine bytes before the edge and nine behind it.
-fn crossing() -> Vec<u8> {
+pub fn crossing() -> Vec<u8> {
     let mut declare = Vec::new();
     Command::Declare(0, P).write(&mut declare);
     [longest(&declare[..9]), declare[9..].to_vec(), vec![0x0C]].concat()

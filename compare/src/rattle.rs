@@ -12,6 +12,7 @@ extern "C" {
         out: *mut u8,
         out_len: usize,
     ) -> usize;
+    fn nobrighi_explained(log: *const u8, log_len: usize, out: *mut u8, out_len: usize) -> usize;
     fn nobrighi_asked(
         log: *const u8,
         log_len: usize,
@@ -32,6 +33,12 @@ pub fn play(log: &[u8], answers: &mut [u8]) -> usize {
 pub fn print(log: &[u8], out: &mut [u8]) -> usize {
     // SAFETY: the library reads and writes only within the slices whose lengths are given.
     unsafe { nobrighi_print(log.as_ptr(), log.len(), out.as_mut_ptr(), out.len()) }
+}
+
+/// Plays a log and writes the explanation of each command on the kernel before it; the bytes written.
+pub fn explained(log: &[u8], out: &mut [u8]) -> usize {
+    // SAFETY: the library reads and writes only within the slices whose lengths are given.
+    unsafe { nobrighi_explained(log.as_ptr(), log.len(), out.as_mut_ptr(), out.len()) }
 }
 
 /// The room that the library wants before it plays a further command.

@@ -16,6 +16,10 @@ pub mod hit;
 pub mod lookup;
 #[path = "numbers.rs"]
 pub mod numbers;
+#[path = "rows.rs"]
+pub mod rows;
+#[path = "witnesses.rs"]
+pub mod witnesses;
 
 /// What lib.rs's Vec has beyond Rust's.
 trait Set<T> {

@@ -24,17 +24,18 @@ fn component(kernel: &Kernel, id: usize) -> String {
 /// What target gives; nothing of a retired component.
 fn target(kernel: &Kernel, id: usize) -> String {
     match lookup::missing(kernel, id) {
-        Some(missing) => waits(missing),
+        Some(missing) => format!(", waits for {}", unresolved(&missing)),
         None if kernel.target(id).is_some() => ", has its target".to_string(),
         None => String::new(),
     }
 }
 
-fn waits(Missing { key, realm, found }: Missing) -> String {
+/// A dependency that does not resolve, and why.
+pub fn unresolved(Missing { key, realm, found }: &Missing) -> String {
     let reason = match found {
         Lookup::NotActive(id) => format!("which {id} provides but is not Active"),
         Lookup::NoOwner => "which nobody provides".to_string(),
         Lookup::Provider(_) | Lookup::Disputed => panic!("{key}/{realm} is missing and found: {found:?}"),
     };
-    format!(", waits for key {key} realm {realm}, {reason}")
+    format!("key {key} realm {realm}, {reason}")
 }

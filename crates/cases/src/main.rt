@@ -4,6 +4,7 @@
 // colon and its answer, `?` if it is not known. Numbers are decimal; a parent may be `-` for none.
 // - new, and counts, node, decl, link with the operands that `tables` writes: the kernel written by hand.
 // - keep, back: the kernel remembered and brought back. try STEP: the step's answer, and the kernel stays as it was.
+// - why STEP, of a command or a check: accepted, or the refusal, the test that gives it and what the test found; the kernel and the lists stay.
 // - dependencies, provisions COUNT KEY REALM STEP: so many more ports for the next insertion or configuration,
 //   KEY/REALM first and each key further by STEP; the entries past the count have such ports too.
 // - the fourteen commands, `insert PARENT` with both lists: `done`, `refused N`, `identity N`, how many records a compaction
@@ -17,6 +18,7 @@
 mod commands;
 mod compare;
 mod questions;
+mod reasons;
 mod state;
 
 use commands::Reply;
@@ -144,6 +146,18 @@ fn tried(state: State, line: &[u8]) -> State {
     state::with_kernel(run(state, read(line)), kernel)
 }
 
+// The step after `why`: the kernel and the lists stay as they were.
+fn explained(state: State, line: Line) {
+    if !reasons::has_reason(line) {
+        write(b" ?\n");
+        return;
+    }
+    let mut out = io::buffer();
+    let at = reasons::answer(state, line, &mut out);
+    let at = text::end(&mut out, at);
+    text::flush(&out, at);
+}
+
 // The line, and its answer if it is a step.
 fn step(state: State, line: &[u8]) -> State {
     write(line);
@@ -155,6 +169,12 @@ fn step(state: State, line: &[u8]) -> State {
     if is_named(line, b"try ") {
         if 4 <= line.len() {
             return tried(state, &line[4..]);
+        }
+    }
+    if is_named(line, b"why ") {
+        if 4 <= line.len() {
+            explained(state, read(&line[4..]));
+            return state;
         }
     }
     run(state, read(line))

@@ -17,3 +17,5 @@ pub mod Arrays
 pub mod Blanks
 pub mod Live
 pub mod Pieces
+pub mod Explanation
+pub mod Clashes

@@ -17,6 +17,7 @@ pub mod Kernels
 pub mod Episodes
 pub mod Drain
 pub mod Impact
+pub mod Explanation
 pub mod Agreement
 pub mod Samples
 pub mod Upstream

@@ -29,6 +29,10 @@ parentRetired T (Parent.Of p) = (nodeAt (T .nodes) p) .retired
 abbrev pub clashes : Tables → PortList → PortList → Bool
 clashes T ds ps = not (distinct (listed ds)) || not (distinct (listed ps)) || any (taken T) (listed ps)
 
+-- every declaration, and both lists
+abbrev pub insertSum : Tables → PortList → PortList → ℕ
+insertSum T ds ps = length (T .declarations) + length (listed ds) + length (listed ps)
+
 abbrev pub insertTests : Sizes → Tables → Parent → PortList → PortList → Tests
 insertTests S T q ds ps =
     (tooLong ds || tooLong ps, Error.Capacity)
@@ -36,7 +40,7 @@ insertTests S T q ds ps =
     ∷ (not (parentPresent T q), Error.Unknown)
     ∷ (parentRetired T q, Error.Retired)
     ∷ (clashes T ds ps, Error.Conflict)
-    ∷ (ltb (S .declarations) (length (T .declarations) + length (listed ds) + length (listed ps)), Error.Capacity)
+    ∷ (ltb (S .declarations) (insertSum T ds ps), Error.Capacity)
     ∷ []
 
 -- the new node's declarations: dependencies, then provisions

@@ -97,10 +97,13 @@ remains id d = not (isDependencyOf id d)
 abbrev pub remaining : Tables → ℕ → List Declaration
 remaining T id = keep (remains id) (T .declarations)
 
+-- what remains, and the list
+abbrev pub configureSum : Tables → ℕ → PortList → ℕ
+configureSum T id l = length (remaining T id) + length (listed l)
+
 abbrev pub configureTests : Sizes → Tables → ℕ → PortList → Tests
 configureTests S T id l =
-    let full = ltb (S .declarations) (length (remaining T id) + length (listed l)) in
-    configurableTests T id l ++ ((full, Error.Capacity) ∷ (not (distinct (listed l)), Error.Conflict) ∷ [])
+    configurableTests T id l ++ ((ltb (S .declarations) (configureSum T id l), Error.Capacity) ∷ (not (distinct (listed l)), Error.Conflict) ∷ [])
 
 -- what remains, then the list in order
 abbrev pub dependenciesConfigured : Tables → ℕ → PortList → Tables

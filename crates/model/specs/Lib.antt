@@ -23,4 +23,5 @@ pub mod Layouts
 pub mod Kernels
 pub mod Drain
 pub mod Impact
+pub mod Explanation
 pub mod Samples

@@ -32,10 +32,14 @@ bindings (some bs) = bs
 abbrev pub beginNodeTests : Node → Tests
 beginNodeTests n = absent n ∷ (not (isInactive (n .phase)), Error.InvalidState) ∷ (n .retired, Error.Retired) ∷ (eqb (n .generation) lastGeneration, Error.Capacity) ∷ []
 
+-- every link, and the bindings of the target
+abbrev pub beginSum : Tables → ℕ → ℕ
+beginSum T id = length (T .links) + length (bindings (targetList (target T id)))
+
 abbrev pub beginTests : Sizes → Tables → ℕ → Tests
 beginTests S T id =
     beginNodeTests (nodeAt (T .nodes) id)
-    ++ ((isNone (targetList (target T id)), Error.MissingDependency) ∷ (ltb (S .links) (length (T .links) + length (bindings (targetList (target T id)))), Error.Capacity) ∷ [])
+    ++ ((isNone (targetList (target T id)), Error.MissingDependency) ∷ (ltb (S .links) (beginSum T id), Error.Capacity) ∷ [])
 
 -- Loading, the next generation
 abbrev pub begunNode : Node → Node

@@ -45,6 +45,11 @@ module _ {A : Type 0} where
   find p [] = none
   find p (x ∷ xs) = cond (p x) (some x) (find p xs)
 
+  -- the first entry that passes, with its place, counted from i
+  unfoldable pub findAt : (A → Bool) → ℕ → List A → Option (ℕ × A)
+  findAt p i [] = none
+  findAt p i (x ∷ xs) = cond (p x) (some (i, x)) (findAt p (suc i) xs)
+
   -- every entry with its place, counted from i
   unfoldable pub allAt : (ℕ → A → Bool) → ℕ → List A → Bool
   allAt f i [] = true

@@ -1,19 +1,26 @@
--- The sample sequences C01 to C12, the episodes of a provider, and the order of the tests, each as one table of rows: what is asked of a kernel, and what it shows.
+-- The sample sequences C01 to C12, the episodes of a provider, and the order of the tests, each as one table of rows: what is asked of a kernel, and what it shows; and explanations.
 use mathlib.Core.Path.{_≡_}
 use mathlib.Core.Bool.{Bool, cond, false, true}
 use mathlib.Core.List.{List, [], _∷_, map}
 use mathlib.Core.Option.{Option, none, some}
 use Prim.Native.Nat.{suc, ℕ}
 use Rattle.model.specs.declared.Error.{Error}
+use Rattle.model.specs.declared.explanation.Explanation.{Explanation}
+use Rattle.model.specs.declared.explanation.ListKind.{ListKind}
+use Rattle.model.specs.declared.explanation.Measure.{Measure}
+use Rattle.model.specs.declared.explanation.Place.{Place}
+use Rattle.model.specs.declared.explanation.Witness.{Witness}
 use Rattle.model.specs.declared.records.Link.{Link}
 use Rattle.model.specs.declared.records.Node.{Node}
 use Rattle.model.specs.declared.Parent.{Parent}
 use Rattle.model.specs.declared.Phase.{Phase}
 use Rattle.model.specs.declared.Port.{Port}
 use Rattle.model.specs.declared.PortList.{PortList}
+use Rattle.model.specs.declared.Resolution.{Resolution}
 use Rattle.model.specs.Commands.{Command}
+use Rattle.model.specs.Explanation.{explainedOn, number}
 use Rattle.model.specs.Interface.{portList}
-use Rattle.model.specs.Kernels.{asked, commanded, emptyKernel}
+use Rattle.model.specs.Kernels.{asked, commanded, emptyKernel, reached}
 use Rattle.model.specs.Layouts.{Layout, tablesOf}
 use Rattle.model.specs.Lifecycle.{checkIteration}
 use Rattle.model.specs.Observers.{episodeGeneration, ids, linkGeneration, phase}
@@ -285,3 +292,86 @@ orders =
 
 abbrev pub OrdersHold : Type 0
 OrdersHold = play tiny (emptyKernel tiny) orders ≡ map (λ r. r .shows) orders
+
+-- ---- explanations, each of a command on the one kernel that these commands reach; its declarations and links are full
+
+abbrev small : Sizes
+small = record { identities = 8; declarations = 7; links = 1 }
+
+-- 0 provided P to 2, which is Loading, and leaves; 1 has never begun, and nobody provides A; 3 is retired, with the children 4, which is Active and
+-- provides B, and 5, which depends on it; 6 is Loading and retired
+abbrev pub explainedAfter : List Command
+explainedAfter =
+    Command.insert Parent.None noPorts (only P) ∷
+    Command.insert Parent.None (portList (A ∷ B ∷ C ∷ [])) noPorts ∷
+    Command.insert Parent.None (only P) noPorts ∷
+    Command.insert Parent.None noPorts noPorts ∷
+    Command.insert (Parent.Of 3) noPorts (only B) ∷
+    Command.insert (Parent.Of 3) (only B) noPorts ∷
+    Command.insert Parent.None noPorts noPorts ∷
+    Command.begin 0 ∷
+    Command.finish 0 ∷
+    Command.begin 2 ∷
+    Command.leave 0 ∷
+    Command.retire 3 ∷
+    Command.begin 4 ∷
+    Command.finish 4 ∷
+    Command.begin 6 ∷
+    Command.retire 6 ∷ []
+
+-- a list whose count is past the limit
+abbrev overlong : ℕ → PortList
+overlong n = record { ports = []; count = n }
+
+abbrev because : Error → Place → ℕ → Witness → Explanation
+because e r n w = Explanation.Refused (record { error = e; place = r; test = n; witness = w })
+
+abbrev repeats : ListKind → ℕ → ℕ → Witness
+repeats l i j = Witness.Repeated (record { list = l; earlier = i; later = j })
+
+abbrev unresolved : Port → Resolution → Witness
+unresolved p r = Witness.Dependency (record { port = p; found = r })
+
+abbrev firstLink : Witness
+firstLink = Witness.Link (record { place = 0; consumer = 2; binding = bindingOf P 0 })
+
+abbrev pub explanations : List (Command × Explanation)
+explanations =
+    -- of two lists too long the dependencies; each list
+    (Command.insert (Parent.Of 9) (overlong 40) (overlong 50), because Error.Capacity Place.Lists 1 (number Measure.DependencyCount 40)) ∷
+    (Command.insert Parent.None noPorts (overlong 50), because Error.Capacity Place.Lists 1 (number Measure.ProvisionCount 50)) ∷
+    (Command.configurePendingDependencies 9 (overlong 40), because Error.Capacity Place.Lists 1 (number Measure.DependencyCount 40)) ∷
+    -- the parent: absent, retired
+    (Command.insert (Parent.Of 9) noPorts (only P), because Error.Unknown Place.Insertion 2 (Witness.Component 9)) ∷
+    (Command.insert (Parent.Of 3) noPorts (only P), because Error.Retired Place.Insertion 3 (Witness.Component 3)) ∷
+    -- a clash before a repeat, a repeat before a clash; of the dependencies the smallest later place, and a clash before them
+    (Command.insert Parent.None noPorts (portList (C ∷ P ∷ P ∷ [])), because Error.Conflict Place.Insertion 4 (Witness.Clash (bindingOf P 0))) ∷
+    (Command.insert Parent.None (portList (P ∷ P ∷ [])) (portList (C ∷ C ∷ P ∷ [])), because Error.Conflict Place.Insertion 4 (repeats ListKind.Provisions 0 1)) ∷
+    (Command.insert Parent.None (portList (P ∷ A ∷ C ∷ A ∷ P ∷ [])) noPorts, because Error.Conflict Place.Insertion 4 (repeats ListKind.Dependencies 1 3)) ∷
+    (Command.insert Parent.None (portList (A ∷ A ∷ [])) (only B), because Error.Conflict Place.Insertion 4 (Witness.Clash (bindingOf B 4))) ∷
+    (Command.insert Parent.None (only A) noPorts, because Error.Capacity Place.Insertion 5 (number Measure.DeclarationSum 8)) ∷
+    (Command.insert Parent.None noPorts noPorts, Explanation.Accepted) ∷
+    (Command.declareProvision 1 P, because Error.Conflict Place.DeclareProvision 3 (Witness.Clash (bindingOf P 0))) ∷
+    (Command.declareProvision 1 A, because Error.Capacity Place.DeclareProvision 4 (number Measure.DeclarationCount 7)) ∷
+    (Command.releaseProvision 0 P, because Error.Relied Place.ReleaseProvision 1 firstLink) ∷
+    (Command.releaseProvision 0 A, Explanation.Accepted) ∷
+    (Command.configurePendingDependencies 1 (portList (A ∷ A ∷ B ∷ C ∷ [])), because Error.Capacity Place.ConfigurePendingDependencies 3 (number Measure.DeclarationSum 8)) ∷
+    (Command.configurePendingDependencies 1 (portList (A ∷ B ∷ A ∷ [])), because Error.Conflict Place.ConfigurePendingDependencies 4 (repeats ListKind.Dependencies 0 2)) ∷
+    -- a port that nobody provides; a provider that is not Active
+    (Command.begin 1, because Error.MissingDependency Place.Begin 4 (unresolved A Resolution.NoOwner)) ∷
+    (Command.finish 2, because Error.Changed Place.Finish 2 (unresolved P (Resolution.NotActive 0))) ∷
+    -- of a retired component only itself
+    (Command.finish 6, because Error.Changed Place.Finish 2 (Witness.Component 6)) ∷
+    (Command.begin 3, because Error.Retired Place.Begin 2 (Witness.Component 3)) ∷
+    (Command.begin 5, because Error.Capacity Place.Begin 5 (number Measure.LinkSum 2)) ∷
+    (Command.leave 1, because Error.InvalidState Place.Leave 1 (Witness.Component 1)) ∷
+    (Command.leaveIfChanged 2, Explanation.Accepted) ∷
+    (Command.leaveIfChanged 4, because Error.Changed Place.LeaveIfChanged 2 (Witness.Component 4)) ∷
+    (Command.retire 9, because Error.Unknown Place.Identity 1 (Witness.Component 9)) ∷
+    (Command.beginCleanup 0, because Error.Relied Place.BeginCleanup 2 firstLink) ∷
+    (Command.finishCleanup 0, because Error.InvalidState Place.FinishCleanup 1 (Witness.Component 0)) ∷
+    (Command.remove 3, because Error.Children Place.Remove 2 (Witness.Child 4)) ∷
+    (Command.compactBindings, Explanation.Accepted) ∷ []
+
+abbrev pub ExplanationsHold : Type 0
+ExplanationsHold = map (λ (x : Command × Explanation). explainedOn small (reached small explainedAfter) (x .0)) explanations ≡ map (λ (x : Command × Explanation). x .1) explanations

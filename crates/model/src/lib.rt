@@ -1,7 +1,17 @@
 // What callers see of the lifecycle kernel: phases, ports, bindings, refusals and answers; and the stored records. There is no function here.
+pub mod explanation;
 pub mod records;
 pub mod rows;
 
+pub use explanation::Explanation;
+pub use explanation::LinkAt;
+pub use explanation::ListKind;
+pub use explanation::Measure;
+pub use explanation::Measured;
+pub use explanation::Place;
+pub use explanation::Refusal;
+pub use explanation::Repeat;
+pub use explanation::Witness;
 pub use records::Declaration;
 pub use records::Link;
 pub use records::Node;

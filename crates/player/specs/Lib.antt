@@ -4,3 +4,4 @@ pub mod Players
 pub mod Printed
 pub mod Samples
 pub mod Shifts
+pub mod Reasons

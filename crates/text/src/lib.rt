@@ -7,6 +7,7 @@ ghost use Prim.Native.Nat.{_≤_};
 ghost use Rattle.text.specs.Written.{Puts, decimal};
 
 pub mod answers;
+pub mod explanations;
 pub mod logs;
 pub mod made;
 pub mod status;

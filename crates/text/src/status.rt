@@ -8,6 +8,7 @@ use crate::end;
 use crate::field;
 use kernel::Kernel;
 use model::OptionUnresolved;
+use model::Port;
 use model::Resolution;
 use model::Unresolved;
 use results::Identities;
@@ -25,17 +26,32 @@ fn reason(out: &mut [u8], at: usize, found: Resolution) -> usize
     bytes(out, at, b" provides but is not Active")
 }
 
-// The dependency that a component waits for.
-fn waits(out: &mut [u8], at: usize, unresolved: Unresolved) -> usize
+// A port after a space: its key and its realm.
+pub(crate) fn port(out: &mut [u8], at: usize, port: Port) -> usize
     ensures { λ r. ⌜ r ≤ length (now (out .entry)) ⌝ }
 {
-    let port = unresolved.port;
-    let found = unresolved.found;
-    let at = bytes(out, at, b", waits for key");
+    let at = bytes(out, at, b" key");
     let at = field(out, at, port.key);
     let at = bytes(out, at, b" realm");
-    let at = field(out, at, port.realm);
+    field(out, at, port.realm)
+}
+
+// A dependency that did not resolve, after a space: its port, and why.
+pub(crate) fn unresolved(out: &mut [u8], at: usize, unresolved: Unresolved) -> usize
+    ensures { λ r. ⌜ r ≤ length (now (out .entry)) ⌝ }
+{
+    let wanted = unresolved.port;
+    let found = unresolved.found;
+    let at = port(out, at, wanted);
     reason(out, at, found)
+}
+
+// The dependency that a component waits for.
+fn waits(out: &mut [u8], at: usize, missing: Unresolved) -> usize
+    ensures { λ r. ⌜ r ≤ length (now (out .entry)) ⌝ }
+{
+    let at = bytes(out, at, b", waits for");
+    unresolved(out, at, missing)
 }
 
 // What target gives of a component; nothing of a retired one.
@@ -44,8 +60,8 @@ fn target(out: &mut [u8], at: usize, kernel: Kernel, id: usize) -> usize
 {
     let target = kernel.target(id);
     let missing = target.missing;
-    if let OptionUnresolved::Some(unresolved) = missing {
-        return waits(out, at, unresolved);
+    if let OptionUnresolved::Some(first) = missing {
+        return waits(out, at, first);
     }
     either(out, at, target.there, b", has its target", b"")
 }

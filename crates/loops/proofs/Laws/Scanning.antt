@@ -1,6 +1,6 @@
 -- A loop that leaves early: what is left of a table answers w, as the whole does. The start, a step on, a hit and the end, for each kind of scan.
 use Rattle.model.proofs.Logic.{Bool, List, Option, _&&_, _+_, _<_, _∙_, _≡_, _≤_, add-one, and-assoc, and-false, and-true, ap, arith, drop, false, getD, length, none, slice, some, take, true, ℕ}
-use Rattle.model.specs.{Lists.all, Lists.allAt, Lists.any, Lists.find}
+use Rattle.model.specs.{Lists.all, Lists.allAt, Lists.any, Lists.find, Lists.findAt}
 use Rattle.loops.proofs.{Laws.Columns.rows-most, Laws.Columns.rows-next, Laws.Scan.drop-most, Laws.Scan.part-done, Laws.Scan.part-next, Laws.Scan.rest-done, Laws.Scan.rest-next, Laws.Scan.take-most}
 use Rattle.loops.specs.{Columns.rowsFrom, Limits.AtMost}
 
@@ -47,6 +47,28 @@ module _ {A : Type 0} {p : A → Bool} {xs : List A} {end i : ℕ} {w : Option A
   pub find-end : end ≤ i → none ≡ w
   unfolding find
   find-end l = rw (part-done i end xs l, find) at (h .left)
+
+-- ---- the first entry of an array that passes, with its place
+
+pub record FindingAt {A : Type 0} (p : A → Bool) (xs : List A) (end i : ℕ) (w : Option (ℕ × A)) : Type 0 where
+  pub fits : end ≤ length xs
+  pub left : findAt p i (slice i end xs) ≡ w
+
+pub findAt-start : {A : Type 0} {p : A → Bool} {xs : List A} {count n end : ℕ} → length xs ≡ n → AtMost count n end → FindingAt p xs end 0 (findAt p 0 (take count xs))
+findAt-start {A} {p} {xs} {count} {n} {end} e m = record { fits = omega (arith, m .within); left = ap (findAt p 0) (take-most count n end xs e m) }
+
+module _ {A : Type 0} {p : A → Bool} {xs : List A} {end i : ℕ} {w : Option (ℕ × A)} (h : FindingAt p xs end i w) where
+  pub findAt-on : (d : A) → i < end → p (getD xs i d) ≡ false → FindingAt p xs end (i + 1) w
+  unfolding findAt
+  findAt-on d l t = record { fits = h .fits; left = rw (add-one i) (rw (part-next d i end xs l (h .fits), add-one i, findAt, t) at (h .left)) }
+
+  pub findAt-hit : (d : A) → i < end → p (getD xs i d) ≡ true → some (i, getD xs i d) ≡ w
+  unfolding findAt
+  findAt-hit d l t = rw (part-next d i end xs l (h .fits), findAt, t) at (h .left)
+
+  pub findAt-end : end ≤ i → none ≡ w
+  unfolding findAt
+  findAt-end l = rw (part-done i end xs l, findAt) at (h .left)
 
 -- ---- whether all rows pass
 

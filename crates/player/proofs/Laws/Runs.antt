@@ -22,7 +22,7 @@ module _ (s : State) (log : List ℕ) where
     abbrev behind : List Turn
     behind = turnsFrom (here .after) (operandLength (getD log (s .at) 0)) (drop (suc (s .at)) log)
 
-    first-turn : turns s log ≡ here ∷ cond (isLast (here .item)) [] behind
+    pub first-turn : turns s log ≡ here ∷ cond (isLast (here .item)) [] behind
     unfolding turnsFrom
     first-turn = ap (turnsFrom s 0) (drop-cons log (s .at) 0 h)
 

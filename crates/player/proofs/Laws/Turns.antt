@@ -67,12 +67,12 @@ module _ (s : State) (byte : ℕ) (rest : List ℕ) where
 
   -- ---- the item
 
-  unknown-item : isUnknown byte ≡ true → item s byte rest ≡ Item.unknown
+  pub unknown-item : isUnknown byte ≡ true → item s byte rest ≡ Item.unknown
   unfolding item
   unknown-item u = rw u
 
   module _ (u : isUnknown byte ≡ false) where
-    cut-item : length rest < operandLength byte → item s byte rest ≡ Item.cut
+    pub cut-item : length rest < operandLength byte → item s byte rest ≡ Item.cut
     unfolding item
     cut-item l = let e = lt-ltb _ _ l in rw (u, e)
 

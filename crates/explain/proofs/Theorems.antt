@@ -1,0 +1,2 @@
+-- The claim about every kernel value.
+pub mod Explained
