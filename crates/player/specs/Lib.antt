@@ -4,4 +4,3 @@ pub mod Players
 pub mod Printed
 pub mod Samples
 pub mod Shifts
-pub mod Reasons

@@ -1,4 +1,4 @@
-// Logs of commands played on the kernel, printed and explained, and the functions exported for Rust: three here, one in asked, one in explained, two in times.
+// Logs of commands played on the kernel and printed, and the functions exported for Rust: three here, one in asked, one in times.
 ghost use lib.ListN.{length};
 ghost use Prim.Native.Nat.{_≤_};
 ghost use Rattle.player.specs.Played.{answersOf, fresh, turns};
@@ -8,13 +8,11 @@ ghost use Rattle.text.specs.Written.{Puts};
 mod asked;
 mod commands;
 mod drains;
-mod explained;
 mod lists;
-mod log;
+pub mod log;
 mod observe;
 mod printing;
 pub mod put;
-pub mod reasons;
 mod tables;
 mod times;
 
@@ -25,8 +23,6 @@ pub use drains::play_drain;
 pub use printing::lines;
 pub use printing::lines_buffer;
 pub use printing::print;
-pub use reasons::LogExplanation;
-pub use reasons::why;
 
 // Plays all of the log from the empty kernel; answers[i] is the i-th answer. Gives how many were written.
 #[no_mangle]

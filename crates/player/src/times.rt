@@ -1,10 +1,7 @@
-// For measuring: what is asked of the kernel that a log leaves, and of its next command, many times.
+// For measuring: what is asked of the kernel that a log leaves, many times.
 ghost use lib.ListN.{length};
 ghost use Prim.Native.Nat.{_≤_};
-use crate::commands::Player;
-use crate::explained;
 use crate::put;
-use crate::reasons;
 use kernel::Kernel;
 
 // What drain says of a kernel: the answer and the count.
@@ -63,59 +60,6 @@ pub extern "C" fn nobrighi_times(
     let mut i = 0;
     while i < times {
         written = said(out, kernel, what, id);
-        i += 1;
-    }
-    written
-}
-
-// The next command played on a copy, its answer.
-fn played(out: &mut [u8], player: Player, log: &[u8]) -> usize
-    ensures { λ r. ⌜ r ≤ length (now (out .entry)) ⌝ }
-{
-    let mut answer = [0u8; 1];
-    let next = crate::commands::play(player, log, &mut answer);
-    if next.answered == 0 {
-        return 0;
-    }
-    put::byte(out, 0, answer[0])
-}
-
-// The copy alone.
-fn copied(out: &mut [u8], player: Player, log: &[u8]) -> usize
-    ensures { λ r. ⌜ r ≤ length (now (out .entry)) ⌝ }
-{
-    let mut none = [0u8; 1];
-    let same = crate::commands::play(player, log, &mut none[0..0]);
-    loops::at_most(same.answered, out.len())
-}
-
-// What 0 is why the player's next command is refused, 1 the command, another number the copy that it is played on.
-fn of_next(out: &mut [u8], player: Player, log: &[u8], what: usize) -> usize
-    ensures { λ r. ⌜ r ≤ length (now (out .entry)) ⌝ }
-{
-    match what {
-        0 => explained::written(out, 0, reasons::why_next(player, log)),
-        1 => played(out, player, log),
-        _ => copied(out, player, log),
-    }
-}
-
-// Plays as many of the log's commands as out has bytes, its answers in out, then so many times writes over their start what is said of the next one.
-// Gives how many bytes the last took.
-#[no_mangle]
-pub extern "C" fn nobrighi_explain_times(
-    log: &[u8],
-    what: usize,
-    times: usize,
-    out: &mut [u8],
-) -> usize
-    ensures { λ r. ⌜ r ≤ length (now (out .entry)) ⌝ }
-{
-    let player = crate::commands::play(crate::commands::start(), log, out);
-    let mut written = 0;
-    let mut i = 0;
-    while i < times {
-        written = of_next(out, player, log, what);
         i += 1;
     }
     written

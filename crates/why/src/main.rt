@@ -1,5 +1,5 @@
 // Why a command of a log was refused: plays the log up to it, and writes the refusal, the test that gave it and what the test found, or that it was accepted.
-use player::LogExplanation;
+use reasons::LogExplanation;
 use text::bytes;
 use text::explanations;
 use text::logs::line;
@@ -49,7 +49,7 @@ fn ask_file(name: &[u8], word: &[u8], command: usize) {
     let mut log = io::large_buffer();
     let read = read_log(name, &mut log);
     let n = read.count;
-    let why = player::why(&log[0..n], command);
+    let why = reasons::why(&log[0..n], command);
     tell(
         b"why",
         name,

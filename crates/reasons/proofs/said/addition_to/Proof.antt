@@ -1,7 +1,7 @@
--- `player::reasons::addition_to` meets its contract.
+-- `reasons::said::addition_to` meets its contract.
 use Rattle.model.proofs.Logic.{le-leb, lt-leb}
-use Rattle.player.proofs.{reasons.addition_to.Statement.statement}
-use Rattle.player.proofs.reasons.addition_to.Tie as tie
+use Rattle.reasons.proofs.{said.addition_to.Statement.statement}
+use Rattle.reasons.proofs.said.addition_to.Tie as tie
 
 returns : tie.Need-returns
 returns c = let h = le-leb _ _ (c .if1 .taken) in rw h

@@ -1,11 +1,8 @@
 // For Rust, the explanation of each command of a log as bytes, all of the same length.
 ghost use lib.ListN.{length};
 ghost use Prim.Native.Nat.{_≤_};
-use crate::commands::play;
-use crate::commands::start;
-use crate::put;
-use crate::reasons::LogExplanation;
-use crate::reasons::why_next;
+use crate::said::LogExplanation;
+use crate::said::why_next;
 use model::Explanation;
 use model::ListKind;
 use model::Measure;
@@ -14,6 +11,9 @@ use model::Refusal;
 use model::Resolution;
 use model::Unresolved;
 use model::Witness;
+use player::play;
+use player::put;
+use player::start;
 
 // A place's number, in the order of the rules' table; 14 is the log.
 fn place_number(place: Place) -> u8 {

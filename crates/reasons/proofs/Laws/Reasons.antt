@@ -2,8 +2,9 @@
 use Rattle.model.proofs.Logic.{List, _<_, _∙_, _≡_, ap, drop, getD, length, refl, suc, ℕ}
 use Rattle.explain.specs.{declared.calls.Call.Call, declared.calls.CommandKind.CommandKind}
 use Rattle.model.specs.{declared.Parent.Parent, declared.Port.Port}
-use Rattle.player.specs.{Log.parentOf, Log.portAt, Played.Item, Played.State, Played.Turn, Played.item, Played.taken, Played.turns, Reasons.callOf, Reasons.saidIn, Reasons.saidOf}
+use Rattle.player.specs.{Log.parentOf, Log.portAt, Played.Item, Played.State, Played.Turn, Played.item, Played.taken, Played.turns}
+use Rattle.reasons.specs.{Reasons.callOf, Reasons.saidIn, Reasons.saidOf}
 use Rattle.player.proofs.{Laws.Runs.first-turn}
 
 -- a turn's item is the one that was taken
 pub taken-item : (s : State) (n : ℕ) (i : Item) → (taken s n i) .item ≡ i

@@ -1,9 +1,10 @@
--- `player::reasons::asked` meets its contract.
+-- `reasons::said::asked` meets its contract.
 use Rattle.model.proofs.Logic.{_∙_, ap, needs}
 use Rattle.explain.specs.{Explanations.commandOf, Explanations.explanationOf, declared.calls.Call.Call}
-use Rattle.player.specs.{Players.stateOf, declared.reasons.LogExplanation.LogExplanation}
-use Rattle.player.proofs.{Laws.Reasons.call-is, reasons.asked.Statement.statement}
-use Rattle.player.proofs.reasons.asked.Tie as tie
+use Rattle.player.specs.{Players.stateOf}
+use Rattle.reasons.specs.{declared.said.LogExplanation.LogExplanation}
+use Rattle.reasons.proofs.{Laws.Reasons.call-is, said.asked.Statement.statement}
+use Rattle.reasons.proofs.said.asked.Tie as tie
 
 returns : tie.Need-returns
 returns c =

@@ -1,7 +1,7 @@
--- `player::explained::nobrighi_explained` is safe and ends, what it gives in the buffer: a command takes at least one byte of the log.
+-- `reasons::explained::nobrighi_explained` is safe and ends, what it gives in the buffer: a command takes at least one byte of the log.
 use Rattle.model.proofs.Logic.{_-_, _≡_, _≤_, arith, length}
-use Rattle.player.proofs.{explained.nobrighi_explained.Statement.statement}
-use Rattle.player.proofs.explained.nobrighi_explained.Tie as tie
+use Rattle.reasons.proofs.{explained.nobrighi_explained.Statement.statement}
+use Rattle.reasons.proofs.explained.nobrighi_explained.Tie as tie
 
 abbrev Inv-loop : tie.InvT-loop
 Inv-loop log out₀ player₀ answer₀ at₀ index₀ out player answer at index = (length out ≡ length out₀) × (length answer ≡ 1) × (at ≤ length out)

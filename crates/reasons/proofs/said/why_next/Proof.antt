@@ -1,8 +1,10 @@
--- `player::reasons::why_next` meets its contract.
+-- `reasons::said::why_next` meets its contract.
 use Rattle.model.proofs.Logic.{List, _+_, _-_, _<_, _∙_, _≡_, _≤_, ap, arith, drop, getD, length, length-drop, needs, refl, suc, sym, take, ℕ}
-use Rattle.player.specs.{Log.operandLength, Played.State, Played.Turn, Played.item, Played.turns, Players.stateOf, Reasons.saidIn, Reasons.saidOf}
-use Rattle.player.proofs.{Laws.Reasons.said-here, Laws.Runs.ended, Laws.Turns.cut-item, Laws.Turns.unknown-item, Laws.Turns.whole-item, reasons.why_next.Statement.statement}
-use Rattle.player.proofs.reasons.why_next.Tie as tie
+use Rattle.player.specs.{Log.operandLength, Played.State, Played.Turn, Played.item, Played.turns, Players.stateOf}
+use Rattle.reasons.specs.{Reasons.saidIn, Reasons.saidOf}
+use Rattle.player.proofs.{Laws.Runs.ended, Laws.Turns.cut-item, Laws.Turns.unknown-item, Laws.Turns.whole-item}
+use Rattle.reasons.proofs.{Laws.Reasons.said-here, said.why_next.Statement.statement}
+use Rattle.reasons.proofs.said.why_next.Tie as tie
 
 -- the byte read, with the length of its operands
 module _ (r : tie.After-length-of) where

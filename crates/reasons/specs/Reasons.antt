@@ -11,9 +11,9 @@ use Rattle.model.specs.declared.PortList.{PortList}
 use Rattle.model.specs.declared.explanation.Explanation.{Explanation}
 use Rattle.model.specs.Explanation.{replyBy}
 use Rattle.model.specs.Refusals.{replyNumber}
 use Rattle.player.specs.Log.{parentOf, portAt}
 use Rattle.player.specs.Played.{Item, State, Turn, answersOf, isFull, turns}
-use Rattle.player.specs.declared.reasons.LogExplanation.{LogExplanation}
+use Rattle.reasons.specs.declared.said.LogExplanation.{LogExplanation}
 
 -- a port for a list: a 33rd is refused, with the count
 abbrev pub additionSaid : PortList → LogExplanation

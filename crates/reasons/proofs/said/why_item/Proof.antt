@@ -1,8 +1,10 @@
--- `player::reasons::why_item` meets its contract: the byte is one of the first fifteen, or the sixteenth.
+-- `reasons::said::why_item` meets its contract: the byte is one of the first fifteen, or the sixteenth.
 use Rattle.model.proofs.Logic.{_-_, _∙_, ap, getD, needs, sym, ℕ}
-use Rattle.player.specs.{Played.Item, Played.meanings, Players.stateOf, Reasons.saidOf, declared.reasons.LogExplanation.LogExplanation}
-use Rattle.player.proofs.{Laws.Turns.sixteenth, reasons.why_item.Statement.statement}
-use Rattle.player.proofs.reasons.why_item.Tie as tie
+use Rattle.player.specs.{Played.Item, Played.meanings, Players.stateOf}
+use Rattle.reasons.specs.{Reasons.saidOf, declared.said.LogExplanation.LogExplanation}
+use Rattle.player.proofs.{Laws.Turns.sixteenth}
+use Rattle.reasons.proofs.{said.why_item.Statement.statement}
+use Rattle.reasons.proofs.said.why_item.Tie as tie
 
 -- what is said of the byte whose number is n
 abbrev said : tie.Start → ℕ → LogExplanation

@@ -4,8 +4,9 @@ use Rattle.explain.specs.{Explanations.explanationOf}
 use Rattle.kernel.specs.{Fields.layoutOf, Outcomes.command, declared.Kernel.Kernel}
 use Rattle.model.specs.{Commands.Command, Explanation.replyBy, Refusals.Reply, Refusals.accepted, Refusals.replyNumber, declared.PortList.PortList, declared.explanation.Explanation.Explanation}
 use Rattle.model.proofs.{Laws.Booleans.clash, Theorems.Explanation.every-refusal-explained}
-use Rattle.player.specs.{Log.operandLength, Played.Item, Played.State, Played.Turn, Played.addition, Played.answersOf, Played.isFull, Played.isLast, Played.item, Played.taken, Played.turn, Played.turnsFrom, Reasons.EveryAnswerExplained, Reasons.additionSaid, Reasons.saidIn, Reasons.saidNumber, Reasons.saidOf, declared.reasons.LogExplanation.LogExplanation}
-use Rattle.player.proofs.{Laws.Reasons.taken-item}
+use Rattle.player.specs.{Log.operandLength, Played.Item, Played.State, Played.Turn, Played.addition, Played.answersOf, Played.isFull, Played.isLast, Played.item, Played.taken, Played.turn, Played.turnsFrom}
+use Rattle.reasons.specs.{Reasons.EveryAnswerExplained, Reasons.additionSaid, Reasons.saidIn, Reasons.saidNumber, Reasons.saidOf, declared.said.LogExplanation.LogExplanation}
+use Rattle.reasons.proofs.{Laws.Reasons.taken-item}
 use Rattle.sizes.specs.{Sizes.sizes}
 
 -- ---- one command

@@ -4,18 +4,18 @@ ghost use mathlib.Core.Path.{_≡_};
 ghost use lib.ListN.{getD};
 ghost use Prim.Native.Nat.{_-_};
 ghost use Rattle.explain.specs.Explanations.{commandOf, explanationOf};
 ghost use Rattle.player.specs.Played.{Item, isUnknown, meanings, turns};
 ghost use Rattle.player.specs.Players.{stateOf};
-ghost use Rattle.player.specs.Reasons.{additionSaid, callOf, saidIn, saidOf};
-use crate::commands::Player;
-use crate::commands::play;
-use crate::commands::start;
-use crate::log;
-use crate::log::LIMIT;
+ghost use Rattle.reasons.specs.Reasons.{additionSaid, callOf, saidIn, saidOf};
 use explain::Call;
 use explain::CommandKind;
 use model::Explanation;
 use model::PortList;
+use player::Player;
+use player::log;
+use player::log::LIMIT;
+use player::play;
+use player::start;
 
 // What is said of a log's command: the log has none of this number; a byte outside 01 to 10 (11); operands that are cut (12); a port for a list that has
 // so many (9); a command of the kernel, or a port that is added, which is accepted.

@@ -1,0 +1,2 @@
+-- What the proofs of the crate's functions cite.
+pub mod Reasons

@@ -1,0 +1,2 @@
+-- The claim about every log.
+pub mod Reasons
