@@ -4,4 +4,4 @@ pub mod said;
 mod times;
 
 pub use said::LogExplanation;
-pub use said::why;
+pub use said::why_next;

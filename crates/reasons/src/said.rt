@@ -13,9 +13,6 @@ use model::Explanation;
 use model::PortList;
 use player::Player;
 use player::log;
-use player::log::LIMIT;
-use player::play;
-use player::start;
 
 // What is said of a log's command: the log has none of this number; a byte outside 01 to 10 (11); operands that are cut (12); a port for a list that has
 // so many (9); a command of the kernel, or a port that is added, which is accepted.
@@ -100,26 +97,4 @@ pub fn why_next(player: Player, log: &[u8]) -> LogExplanation
         return LogExplanation::Cut;
     }
     why_item(player, byte, &log[at + 1..at + 1 + length])
-}
-
-// Of the command behind as many as the answers have room for.
-fn why_behind(log: &[u8], answers: &mut [u8]) -> LogExplanation {
-    let player = play(start(), log, answers);
-    if player.answered < answers.len() {
-        return LogExplanation::NoCommand;
-    }
-    if 10 < text::logs::last_answer(answers, answers.len()) {
-        return LogExplanation::NoCommand;
-    }
-    why_next(player, log)
-}
-
-// Of the command with this number, counted from 0, in the log's first 65,536 bytes.
-pub fn why(log: &[u8], number: usize) -> LogExplanation {
-    let end = loops::at_most(log.len(), LIMIT);
-    let mut answers = io::large_buffer();
-    if answers.len() < number {
-        return LogExplanation::NoCommand;
-    }
-    why_behind(&log[0..end], &mut answers[0..number])
 }

@@ -1,7 +1,11 @@
 // Why a command of a log was refused: plays the log up to it, and writes the refusal, the test that gave it and what the test found, or that it was accepted.
+use player::play;
+use player::start;
 use reasons::LogExplanation;
+use reasons::why_next;
 use text::bytes;
 use text::explanations;
+use text::logs::last_answer;
 use text::logs::line;
 use text::logs::read_log;
 use text::logs::tell;
@@ -44,12 +48,33 @@ fn answered(name: &[u8], word: &[u8], why: LogExplanation) {
     text::flush(&out, at);
 }
 
+// Why of the command behind as many as the answers have room for; an 11 or a 12 is a log's last.
+fn behind(log: &[u8], answers: &mut [u8]) -> LogExplanation {
+    let player = play(start(), log, answers);
+    if player.answered < answers.len() {
+        return LogExplanation::NoCommand;
+    }
+    if 10 < last_answer(answers, answers.len()) {
+        return LogExplanation::NoCommand;
+    }
+    why_next(player, log)
+}
+
+// Why of the command with this number, counted from 0.
+fn asked(log: &[u8], command: usize) -> LogExplanation {
+    let mut answers = io::large_buffer();
+    if answers.len() < command {
+        return LogExplanation::NoCommand;
+    }
+    behind(log, &mut answers[0..command])
+}
+
 // The first 65,536 bytes of a file, as far as they can be read, played up to the command; of a file that cannot be opened nothing is.
 fn ask_file(name: &[u8], word: &[u8], command: usize) {
     let mut log = io::large_buffer();
     let read = read_log(name, &mut log);
     let n = read.count;
-    let why = reasons::why(&log[0..n], command);
+    let why = asked(&log[0..n], command);
     tell(
         b"why",
         name,
