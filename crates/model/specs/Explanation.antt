@@ -176,7 +176,7 @@ reasons T Command.compactDeclarations = []
 abbrev pub refusalFor : Error → Reason → Refusal
 refusalFor e r = record { error = e; place = r .place; test = r .test; witness = r .witness }
 
--- tests with their reasons, one for one (Theorems/Explanation.antt: none is left over)
+-- tests with their reasons, one for one (`rows-told`, Theorems/Explanation.antt: no test is left without one)
 abbrev pub named : Tests → List Reason → List (Bool × Refusal)
 named [] rs = []
 named (t ∷ ts) [] = []
