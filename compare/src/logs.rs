@@ -1,10 +1,11 @@
 //! logs SEED DIR: writes the log files that the program `replay` plays. logs shift FILE: writes the sample shift. logs
 //! status DIR, logs stop DIR, logs affected DIR, logs why DIR, logs play DIR: writes those that the programs of these
-//! names play.
+//! names play. logs explained DIR: writes those where the first of several witnesses must be named.
 // the modules have parts that only `run` uses
 #![allow(dead_code)]
 
 mod affected_logs;
+mod explained_logs;
 mod generator;
 mod guide;
 mod log;
@@ -51,12 +52,13 @@ fn named(program: &str) -> Option<Vec<(&'static str, Vec<u8>)>> {
         "affected" => Some(affected_logs::all().to_vec()),
         "why" => Some(why_logs::all()),
         "play" => Some(play_logs::all()),
+        "explained" => Some(explained_logs::all()),
         _ => None,
     }
 }
 
 fn usage() -> ! {
-    eprintln!("use: logs SEED DIR | shift FILE | status DIR | stop DIR | affected DIR | why DIR | play DIR");
+    eprintln!("use: logs SEED DIR | shift FILE | status DIR | stop DIR | affected DIR | why DIR | play DIR | explained DIR");
     std::process::exit(2);
 }
 

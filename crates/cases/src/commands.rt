@@ -7,7 +7,7 @@ use text::made::{identity_of, parent_of, port_of};
 use text::words::Line;
 
 // refusal: 0 is done; detail: the identity that insert issued, how many records a compaction removed, how many commands stop took.
-#[derive(Drop)]
+#[derive(Clone, Copy)]
 pub struct Reply {
     pub kernel: Kernel,
     pub refusal: u8,

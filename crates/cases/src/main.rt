@@ -15,6 +15,10 @@
 // - affected: leave's answer, and who is hit.
 // - observe: each question of the file that is the first argument.
 // The kernel goes on from file to file.
+#![tactic(auto)]
+
+ghost use Rattle.std.specs.Prelude.{◌≤◌, length};
+
 mod commands;
 mod compare;
 mod questions;
@@ -22,8 +26,10 @@ mod reasons;
 mod state;
 
 use commands::Reply;
-use libc::STDOUT_FILENO;
 use state::State;
+use std::fs::File;
+use std::io;
+use text::logs::{argument, argument_count, open, read_open};
 use text::words::{Line, place_of, word};
 
 // The names of the steps, and how many operands each has. 0 to 19 hand back a kernel: compactions are 10 and 11, insert and configure 12 and 13,
@@ -43,8 +49,8 @@ fn read(line: &[u8]) -> Line {
     )
 }
 
-fn write(bytes: &[u8]) {
-    io::write_all(STDOUT_FILENO, bytes);
+fn write(rt: &HostRuntime, bytes: &[u8]) -> io::Result<()> {
+    rt.write_all(bytes)
 }
 
 // The answer of a step that hands back a kernel.
@@ -66,22 +72,24 @@ fn answer(out: &mut [u8], name: usize, refusal: u8, detail: u64) -> usize {
 }
 
 // Ends the line of a step that hands back a kernel.
-fn tell(name: usize, refusal: u8, detail: u64, same: bool) {
-    let mut out = io::buffer();
+fn tell(rt: &HostRuntime, name: usize, refusal: u8, detail: u64, same: bool) -> io::Result<()> {
+    let mut out = [0u8; 4096];
     let at = answer(&mut out, name, refusal, detail);
     let at = text::either(&mut out, at, same, b", unchanged\n", b", changed\n");
-    text::flush(&out, at);
+    text::flush(rt, &out, at)?;
+    Ok(())
 }
 
-fn told(state: State, line: Line, reply: Reply) {
+fn told(rt: &HostRuntime, state: State, line: Line, reply: Reply) -> io::Result<()> {
     let before = state.kernel;
     let after = reply.kernel;
     tell(
+        rt,
         line.name,
         reply.refusal,
         reply.detail,
         compare::same(before, after),
-    );
+    )
 }
 
 // The state with the kernel handed back; insert and configure_pending_dependencies use up the lists.
@@ -95,35 +103,36 @@ fn after(state: State, line: Line, reply: Reply) -> State {
 }
 
 // A step that hands back a kernel.
-fn replaced(state: State, line: Line) -> State {
+fn replaced(rt: &HostRuntime, state: State, line: Line) -> io::Result<State> {
     let reply = commands::reply_of(state, line);
-    told(state, line, reply);
-    after(state, line, reply)
+    told(rt, state, line, reply)?;
+    Ok(after(state, line, reply))
 }
 
 // A question.
-fn ask(state: State, line: Line) {
-    let mut out = io::large_buffer();
-    let at = questions::answer(state, line, &mut out);
-    let at = text::end(&mut out, at);
-    text::flush(&out, at);
+fn ask(rt: &HostRuntime, state: State, line: Line) -> io::Result<()> {
+    let mut out = [0u8; 65536];
+    let at = questions::answer(rt, state, line, &mut out)?;
+    let at = text::end(rt, &mut out, at)?;
+    text::flush(rt, &out, at)?;
+    Ok(())
 }
 
 // A step that is written up to its answer.
-fn run(state: State, line: Line) -> State {
+fn run(rt: &HostRuntime, state: State, line: Line) -> io::Result<State> {
     if !line.known {
-        write(b" ?\n");
-        return state;
+        write(rt, b" ?\n")?;
+        return Ok(state);
     }
     if (line.name < 20) | (line.name == 45) {
-        return replaced(state, line);
+        return replaced(rt, state, line);
     }
     if line.name < 23 {
-        write(b" done\n");
-        return state::set(state, line);
+        write(rt, b" done\n")?;
+        return Ok(state::set(state, line));
     }
-    ask(state, line);
-    state
+    ask(rt, state, line)?;
+    Ok(state)
 }
 
 // Whether a line's first word is this name, which a space ends.
@@ -139,122 +148,137 @@ fn is_heading(line: &[u8]) -> bool {
 }
 
 // The step after `try`: the kernel stays as it was.
-fn tried(state: State, line: &[u8]) -> State {
+fn tried(rt: &HostRuntime, state: State, line: &[u8]) -> io::Result<State> {
     let kernel = state.kernel;
-    state::with_kernel(run(state, read(line)), kernel)
+    Ok(state::with_kernel(run(rt, state, read(line))?, kernel))
 }
 
 // The step after `why`: the kernel and the lists stay as they were.
-fn explained(state: State, line: Line) {
+fn explained(rt: &HostRuntime, state: State, line: Line) -> io::Result<()> {
     if !reasons::has_reason(line) {
-        write(b" ?\n");
-        return;
+        return write(rt, b" ?\n");
     }
-    let mut out = io::buffer();
+    let mut out = [0u8; 4096];
     let at = reasons::answer(state, line, &mut out);
-    let at = text::end(&mut out, at);
-    text::flush(&out, at);
+    let at = text::end(rt, &mut out, at)?;
+    text::flush(rt, &out, at)?;
+    Ok(())
 }
 
 // The line, and its answer if it is a step.
-fn step(state: State, line: &[u8]) -> State {
-    write(line);
+fn step(rt: &HostRuntime, state: State, line: &[u8]) -> io::Result<State> {
+    write(rt, line)?;
     if is_heading(line) {
-        write(b"\n");
-        return state;
+        write(rt, b"\n")?;
+        return Ok(state);
     }
-    write(b":");
+    write(rt, b":")?;
     if is_named(line, b"try ") {
         if 4 <= line.len() {
-            return tried(state, &line[4..]);
+            return tried(rt, state, &line[4..]);
         }
     }
     if is_named(line, b"why ") {
         if 4 <= line.len() {
-            explained(state, read(&line[4..]));
-            return state;
+            explained(rt, state, read(&line[4..]))?;
+            return Ok(state);
         }
     }
-    run(state, read(line))
+    run(rt, state, read(line))
 }
 
 // Each line of a text.
-fn play(state: State, lines: &[u8]) -> State {
+fn play(rt: &HostRuntime, state: State, lines: &[u8]) -> io::Result<State> {
     let mut state = state;
     let mut start = 0;
     let mut i = 0;
     while i < lines.len() {
         if lines[i] == b'\n' {
             if start <= i {
-                state = step(state, &lines[start..i]);
+                state = step(rt, state, &lines[start..i])?;
             }
             start = i + 1;
         }
         i += 1;
     }
-    state
+    Ok(state)
 }
 
 // A line of a file; after `observe` the questions.
-fn step_or_questions(state: State, line: &[u8], questions: &[u8]) -> State {
-    let next = step(state, line);
+fn step_or_questions(
+    rt: &HostRuntime,
+    state: State,
+    line: &[u8],
+    questions: &[u8],
+) -> io::Result<State> {
+    let next = step(rt, state, line)?;
     if is_named(line, b"observe ") {
-        return play(next, questions);
+        return play(rt, next, questions);
     }
-    next
+    Ok(next)
 }
 
 // Each line of a file.
-fn play_file(state: State, lines: &[u8], questions: &[u8]) -> State {
+fn play_file(rt: &HostRuntime, state: State, lines: &[u8], questions: &[u8]) -> io::Result<State> {
     let mut state = state;
     let mut start = 0;
     let mut i = 0;
     while i < lines.len() {
         if lines[i] == b'\n' {
             if start <= i {
-                state = step_or_questions(state, &lines[start..i], questions);
+                state = step_or_questions(rt, state, &lines[start..i], questions)?;
             }
             start = i + 1;
         }
         i += 1;
     }
-    state
+    Ok(state)
 }
 
-// A line with the name of the file that is argument i; gives its descriptor.
-fn open_argument(i: usize) -> i32 {
-    let mut name = io::buffer();
-    let n = os::arg(i, &mut name);
-    write(b"== ");
-    write(&name[..n]);
-    write(b"\n");
-    os::open_read(&name[..n])
+// A line with the name of the file that is argument i; gives the file, if it can be opened.
+fn open_argument(rt: &HostRuntime, i: usize) -> io::Result<Option<File>> {
+    let mut name = [0u8; 4096];
+    let n = argument(rt, i, &mut name);
+    write(rt, b"== ")?;
+    write(rt, &name[..n])?;
+    write(rt, b"\n")?;
+    Ok(open(rt, &name[..n]))
+}
+
+// Reads the first bytes of a file, and gives how many; none of one that is not there.
+fn read_file(file: Option<File>, out: &mut [u8]) -> usize
+    ensures { result ≤ length out.old }
+{
+    let Some(mut file) = file else {
+        return 0;
+    };
+    let read = read_open(&mut file, out);
+    read.count
 }
 
 // The first 65,536 bytes of the file that is argument i.
-fn play_argument(state: State, i: usize, questions: &[u8]) -> State {
-    let fd = open_argument(i);
-    let mut lines = io::large_buffer();
-    let n = io::read_full(fd, &mut lines);
-    libc::close(fd);
-    play_file(state, &lines[..n], questions)
+fn play_argument(rt: &HostRuntime, state: State, i: usize, questions: &[u8]) -> io::Result<State> {
+    let file = open_argument(rt, i)?;
+    let mut lines = [0u8; 65536];
+    let n = read_file(file, &mut lines);
+    play_file(rt, state, &lines[..n], questions)
 }
 
 // Each file after the first.
-fn play_arguments(questions: &[u8]) {
+fn play_arguments(rt: &HostRuntime, questions: &[u8]) -> io::Result<()> {
     let mut state = state::start();
-    let count = os::arg_count();
+    let count = argument_count(rt);
     let mut i = 2;
     while i < count {
-        state = play_argument(state, i, questions);
+        state = play_argument(rt, state, i, questions)?;
         i += 1;
     }
+    Ok(())
 }
 
-fn main() {
-    let fd = open_argument(1);
-    let mut questions = io::large_buffer();
-    let n = io::read_full(fd, &mut questions);
-    libc::close(fd);
-    play_arguments(&questions[..n]);
+fn main(rt: HostRuntime) -> io::Result<()> {
+    let file = open_argument(&rt, 1)?;
+    let mut questions = [0u8; 65536];
+    let n = read_file(file, &mut questions);
+    play_arguments(&rt, &questions[..n])
 }

@@ -6,7 +6,7 @@ use text::made::{identity_of, more_ports, no_ports};
 use text::words::Line;
 
 // kept: the kernel that `back` brings back; the lists: those of the next insertion or configuration.
-#[derive(Drop)]
+#[derive(Clone, Copy)]
 pub struct State {
     pub kernel: Kernel,
     pub kept: Kernel,

@@ -1,4 +1,6 @@
 // The drain of a kernel: the list of commands that stops every component, and the kernel that they leave.
+#![tactic(auto)]
+
 ghost use Rattle.std.specs.Prelude.{◌≡◌};
 ghost use Rattle.drain.specs.Drains.{drain_of, stopped_of};
 
@@ -16,7 +18,7 @@ mod uses;
 pub use steps::Drain;
 
 // What stop hands back; commands: how many commands it took, 0 on a refusal.
-#[derive(Drop)]
+#[derive(Clone, Copy)]
 pub struct Stopped {
     pub kernel: Kernel,
     pub answer: Answer,

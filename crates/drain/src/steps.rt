@@ -9,7 +9,7 @@ use results::Identities;
 use sizes::STEPS;
 
 // What drain answers: the steps and how many, blank past the count. On a refusal there are none.
-#[derive(Drop)]
+#[derive(Clone, Copy)]
 pub struct Drain {
     pub answer: Answer,
     pub steps: [Step; STEPS],

@@ -7,7 +7,7 @@ use model::{Link, Node};
 use sizes::{IDENTITIES, LINKS};
 
 // Which components must leave, which are restoring, and which are serving.
-#[derive(Drop)]
+#[derive(Clone, Copy)]
 pub(crate) struct Flags {
     pub leaving: [bool; IDENTITIES],
     pub restoring: [bool; IDENTITIES],

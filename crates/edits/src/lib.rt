@@ -1,4 +1,6 @@
 // The loops that write a kernel's tables, each within its own: what is kept, what becomes dead.
+#![tactic(auto)]
+
 ghost use Rattle.std.specs.Prelude.{◌≡◌, map, ◌++◌, drop, take};
 ghost use Rattle.model.specs.Records.{dead_for};
 ghost use Rattle.edits.specs.Kept.{keeping, kept_declarations, kept_links};
@@ -7,14 +9,14 @@ use model::{Declaration, Link, Port};
 use sizes::{DECLARATIONS, IDENTITIES, LINKS};
 
 // Declarations, and how many of them were kept.
-#[derive(Drop)]
+#[derive(Clone, Copy)]
 pub struct KeptDeclarations {
     pub declarations: [Declaration; DECLARATIONS],
     pub count: usize,
 }
 
 // Links, and how many of them were kept.
-#[derive(Drop)]
+#[derive(Clone, Copy)]
 pub struct KeptLinks {
     pub links: [Link; LINKS],
     pub count: usize,
@@ -50,7 +52,7 @@ pub fn live_links(mut links: [Link; LINKS], count: usize) -> KeptLinks
 }
 
 // Which declarations are kept: those of present owners; all but the provisions of an owner and port; all but the dependencies of an owner.
-#[derive(Drop)]
+#[derive(Clone, Copy)]
 pub enum Rule {
     Owned,
     Released(usize, Port),

@@ -5,7 +5,7 @@ ghost use Rattle.explain.specs.Explanations.{blank_call};
 use model::{Parent, Port, PortList};
 
 // The fourteen commands.
-#[derive(Drop)]
+#[derive(Clone, Copy)]
 pub enum CommandKind {
     Insert,
     DeclareProvision,
@@ -24,7 +24,7 @@ pub enum CommandKind {
 }
 
 // Its kind and its operands; those that the kind does not use are ignored. configure_pending_dependencies takes the dependencies.
-#[derive(Drop)]
+#[derive(Clone, Copy)]
 pub struct Call {
     pub kind: CommandKind,
     pub id: usize,

@@ -1,4 +1,6 @@
 // The test behind a refusal: which test of its row refuses a command or a check, and what it found.
+#![tactic(auto)]
+
 ghost use Rattle.std.specs.Prelude.{◌≡◌};
 ghost use Rattle.explain.specs.Explanations.{command_of, explanation_of};
 ghost use Rattle.model.specs.Commands.{Command};

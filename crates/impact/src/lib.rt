@@ -1,4 +1,6 @@
 // Who is hit if a component leaves.
+#![tactic(auto)]
+
 ghost use Rattle.std.specs.Prelude.{◌≡◌};
 ghost use Rattle.impact.specs.Affected.{affected_of};
 

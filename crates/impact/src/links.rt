@@ -10,7 +10,7 @@ use scans::flag_at;
 use sizes::{IDENTITIES, LINKS};
 
 // Of each identity: whether a live link of it has the leaving component as provider, and whether one has a provider that is not Active.
-#[derive(Drop)]
+#[derive(Clone, Copy)]
 pub(crate) struct Uses {
     pub relying: [bool; IDENTITIES],
     pub unserved: [bool; IDENTITIES],

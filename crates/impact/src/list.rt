@@ -8,7 +8,7 @@ use results::Identities;
 use sizes::IDENTITIES;
 
 // Leave's answer, and who is hit, ascending; nobody on a refusal.
-#[derive(Drop)]
+#[derive(Clone, Copy)]
 pub struct Affected {
     pub answer: Answer,
     pub ids: Identities,

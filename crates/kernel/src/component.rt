@@ -11,7 +11,7 @@ use model::{Answer, Error, Node, Row, Transition};
 use sizes::IDENTITIES;
 
 // Whether the kernel is sound, and the identity's node: blank past the table, and where the kernel is not sound.
-#[derive(Drop)]
+#[derive(Clone, Copy)]
 pub struct Entry {
     pub sound: bool,
     pub node: Node,

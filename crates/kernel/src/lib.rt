@@ -1,4 +1,6 @@
 // The lifecycle kernel: its value, and a file of methods for each part of it.
+#![tactic(auto)]
+
 use model::{Answer, Declaration, InsertAnswer, Link, Node};
 use sizes::{DECLARATIONS, IDENTITIES, LINKS};
 
@@ -14,7 +16,7 @@ mod resolution;
 mod sound;
 
 // Three tables, each with a count; an entry at or past its count is blank. A caller may pass any value.
-#[derive(Drop)]
+#[derive(Clone, Copy)]
 pub struct Kernel {
     pub nodes: [Node; IDENTITIES],
     pub node_count: usize,
@@ -25,21 +27,21 @@ pub struct Kernel {
 }
 
 // What a command hands back.
-#[derive(Drop)]
+#[derive(Clone, Copy)]
 pub struct Outcome {
     pub kernel: Kernel,
     pub answer: Answer,
 }
 
 // What insert hands back.
-#[derive(Drop)]
+#[derive(Clone, Copy)]
 pub struct InsertOutcome {
     pub kernel: Kernel,
     pub answer: InsertAnswer,
 }
 
 // What a compaction hands back; removed is 0 on a refusal.
-#[derive(Drop)]
+#[derive(Clone, Copy)]
 pub struct CompactionOutcome {
     pub kernel: Kernel,
     pub answer: Answer,

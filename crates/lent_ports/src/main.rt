@@ -3,6 +3,8 @@
 // For each kernel a line `== NAME`, then a line for each number of dependencies: that number, `slices`
 // and the answers over slices for 0, 1, 31, 32, 33 and 40 provisions, `lists` and those over lists.
 // An answer is 0 for done, else the refusal's number.
+#![tactic(auto)]
+
 ghost use Rattle.std.specs.Prelude.{◌≡◌, ◌≤◌, take};
 ghost use Rattle.kernel.specs.Fields.{ask};
 ghost use Rattle.model.specs.Answers.{answer};
@@ -13,22 +15,25 @@ ghost use Rattle.sizes.specs.Sizes.{sizes};
 
 use kernel::Kernel;
 use model::{Answer, Error, Parent, Port, PortList};
+use std::io;
 use text::made::{more_ports, no_ports, port_of};
 
-fn write(bytes: &[u8]) {
-    io::write_all(1, bytes);
+fn write(rt: &HostRuntime, bytes: &[u8]) -> io::Result<()> {
+    rt.write_all(bytes)
 }
 
-fn answered(answer: Answer) {
-    let mut out = io::buffer();
+fn answered(rt: &HostRuntime, answer: Answer) -> io::Result<()> {
+    let mut out = [0u8; 4096];
     let at = text::field(&mut out, 0, records::answer_number(answer) as u64);
-    text::flush(&out, at);
+    text::flush(rt, &out, at)?;
+    Ok(())
 }
 
-fn number(n: usize) {
-    let mut out = io::buffer();
+fn number(rt: &HostRuntime, n: usize) -> io::Result<()> {
+    let mut out = [0u8; 4096];
     let at = text::number(&mut out, 0, n as u64);
-    text::flush(&out, at);
+    text::flush(rt, &out, at)?;
+    Ok(())
 }
 
 // The ports 0/REALM to 39/REALM.
@@ -91,38 +96,51 @@ fn over_lists(
     kernel.check_insert(parent, dependencies, provisions)
 }
 
-fn row(kernel: Kernel, parent: Parent, wanted: [Port; 40], n: usize, offered: [Port; 40])
+fn row(
+    rt: &HostRuntime,
+    kernel: Kernel,
+    parent: Parent,
+    wanted: [Port; 40],
+    n: usize,
+    offered: [Port; 40],
+) -> io::Result<()>
     requires { n ≤ 40 }
 {
-    number(n);
-    write(b" slices");
-    answered(over_slices(kernel, parent, wanted, n, offered, 0));
-    answered(over_slices(kernel, parent, wanted, n, offered, 1));
-    answered(over_slices(kernel, parent, wanted, n, offered, 31));
-    answered(over_slices(kernel, parent, wanted, n, offered, 32));
-    answered(over_slices(kernel, parent, wanted, n, offered, 33));
-    answered(over_slices(kernel, parent, wanted, n, offered, 40));
-    write(b" lists");
-    answered(over_lists(kernel, parent, wanted, n, offered, 0));
-    answered(over_lists(kernel, parent, wanted, n, offered, 1));
-    answered(over_lists(kernel, parent, wanted, n, offered, 31));
-    answered(over_lists(kernel, parent, wanted, n, offered, 32));
-    answered(over_lists(kernel, parent, wanted, n, offered, 33));
-    answered(over_lists(kernel, parent, wanted, n, offered, 40));
-    write(b"\n");
+    number(rt, n)?;
+    write(rt, b" slices")?;
+    answered(rt, over_slices(kernel, parent, wanted, n, offered, 0))?;
+    answered(rt, over_slices(kernel, parent, wanted, n, offered, 1))?;
+    answered(rt, over_slices(kernel, parent, wanted, n, offered, 31))?;
+    answered(rt, over_slices(kernel, parent, wanted, n, offered, 32))?;
+    answered(rt, over_slices(kernel, parent, wanted, n, offered, 33))?;
+    answered(rt, over_slices(kernel, parent, wanted, n, offered, 40))?;
+    write(rt, b" lists")?;
+    answered(rt, over_lists(kernel, parent, wanted, n, offered, 0))?;
+    answered(rt, over_lists(kernel, parent, wanted, n, offered, 1))?;
+    answered(rt, over_lists(kernel, parent, wanted, n, offered, 31))?;
+    answered(rt, over_lists(kernel, parent, wanted, n, offered, 32))?;
+    answered(rt, over_lists(kernel, parent, wanted, n, offered, 33))?;
+    answered(rt, over_lists(kernel, parent, wanted, n, offered, 40))?;
+    write(rt, b"\n")
 }
 
-fn table(name: &[u8], kernel: Kernel, parent: Parent, wanted: [Port; 40]) {
-    write(b"== ");
-    write(name);
-    write(b"\n");
+fn table(
+    rt: &HostRuntime,
+    name: &[u8],
+    kernel: Kernel,
+    parent: Parent,
+    wanted: [Port; 40],
+) -> io::Result<()> {
+    write(rt, b"== ")?;
+    write(rt, name)?;
+    write(rt, b"\n")?;
     let offered = ports_of(1);
-    row(kernel, parent, wanted, 0, offered);
-    row(kernel, parent, wanted, 1, offered);
-    row(kernel, parent, wanted, 31, offered);
-    row(kernel, parent, wanted, 32, offered);
-    row(kernel, parent, wanted, 33, offered);
-    row(kernel, parent, wanted, 40, offered);
+    row(rt, kernel, parent, wanted, 0, offered)?;
+    row(rt, kernel, parent, wanted, 1, offered)?;
+    row(rt, kernel, parent, wanted, 31, offered)?;
+    row(rt, kernel, parent, wanted, 32, offered)?;
+    row(rt, kernel, parent, wanted, 33, offered)?;
+    row(rt, kernel, parent, wanted, 40, offered)
 }
 
 // A kernel whose one component provides KEY/1.
@@ -145,19 +163,20 @@ fn unsound() -> Kernel {
     kernel
 }
 
-fn main() {
+fn main(rt: HostRuntime) -> io::Result<()> {
     let none = Parent::None;
     let wanted = ports_of(2);
-    table(b"empty", Kernel::new(), none, wanted);
-    table(b"first provision taken", providing(0), none, wanted);
-    table(b"32nd provision taken", providing(31), none, wanted);
+    table(&rt, b"empty", Kernel::new(), none, wanted)?;
+    table(&rt, b"first provision taken", providing(0), none, wanted)?;
+    table(&rt, b"32nd provision taken", providing(31), none, wanted)?;
     table(
+        &rt,
         b"32nd dependency equal to the first",
         Kernel::new(),
         none,
         repeated(2),
-    );
-    table(b"parent unknown", providing(0), Parent::Of(1), wanted);
-    table(b"parent retired", retired(), Parent::Of(0), wanted);
-    table(b"unsound", unsound(), none, wanted);
+    )?;
+    table(&rt, b"parent unknown", providing(0), Parent::Of(1), wanted)?;
+    table(&rt, b"parent retired", retired(), Parent::Of(0), wanted)?;
+    table(&rt, b"unsound", unsound(), none, wanted)
 }

@@ -1,4 +1,6 @@
 // What loops over tables of any size share: a count that stops at a size, the bucket of a port, whether a list has a port twice.
+#![tactic(auto)]
+
 ghost use Rattle.std.specs.Prelude.{◌≡◌, ◌<◌};
 ghost use Rattle.model.specs.Interface.{distinct, listed};
 ghost use Rattle.loops.specs.Chains.{BUCKETS, bucket_of};
@@ -17,6 +19,7 @@ pub fn at_most(count: usize, size: usize) -> usize
 pub const BUCKETS: usize = 64;
 
 // The bucket of an owner and a port: residues of a prime, spread by a multiplication (Knuth), so that keys with a common factor other than that prime fall into many buckets.
+#[tactic(auto, unfolding(crate::specs::Chains::bucket_of))]
 pub fn bucket_of(owner: usize, key: u64, realm: u64) -> usize
     ensures { (result ≡ bucket_of owner key realm) × (result < BUCKETS) }
 {

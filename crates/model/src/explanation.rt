@@ -2,7 +2,7 @@
 use crate::{Binding, Error, Unresolved};
 
 // The rows of the rules' table, by the place of their tests.
-#[derive(Drop)]
+#[derive(Clone, Copy)]
 pub enum Place {
     Entry,
     Lists,
@@ -21,14 +21,14 @@ pub enum Place {
 }
 
 // The two lists that a command takes.
-#[derive(Drop)]
+#[derive(Clone, Copy)]
 pub enum ListKind {
     Dependencies,
     Provisions,
 }
 
 // What a test for 9 compares with its limit.
-#[derive(Drop)]
+#[derive(Clone, Copy)]
 pub enum Measure {
     DependencyCount,
     ProvisionCount,
@@ -39,14 +39,14 @@ pub enum Measure {
     Generation,
 }
 
-#[derive(Drop)]
+#[derive(Clone, Copy)]
 pub struct Measured {
     pub measure: Measure,
     pub number: u64,
 }
 
 // A link by its place in the table.
-#[derive(Drop)]
+#[derive(Clone, Copy)]
 pub struct LinkAt {
     pub place: usize,
     pub consumer: usize,
@@ -54,7 +54,7 @@ pub struct LinkAt {
 }
 
 // A port that stands twice in a list, by its places there.
-#[derive(Drop)]
+#[derive(Clone, Copy)]
 pub struct Repeat {
     pub list: ListKind,
     pub earlier: usize,
@@ -64,7 +64,7 @@ pub struct Repeat {
 // What a test found: the component that the call names, of insert its parent; the first dependency that does not resolve, and why; the first live
 // link in the way; the lowest present child; a listed port with the present owner that provides it; a port listed twice; what was compared with its
 // limit; nothing.
-#[derive(Drop)]
+#[derive(Clone, Copy)]
 pub enum Witness {
     Nothing,
     Component(usize),
@@ -77,7 +77,7 @@ pub enum Witness {
 }
 
 // The refusal, the row and the test that gave it, counted from 1 in the row, and what the test found.
-#[derive(Drop)]
+#[derive(Clone, Copy)]
 pub struct Refusal {
     pub error: Error,
     pub place: Place,
@@ -85,7 +85,7 @@ pub struct Refusal {
     pub witness: Witness,
 }
 
-#[derive(Drop)]
+#[derive(Clone, Copy)]
 pub enum Explanation {
     Accepted,
     Refused(Refusal),

@@ -1,4 +1,6 @@
 // What callers see of the lifecycle kernel: phases, ports, bindings, refusals and answers; and the stored records. There is no function here.
+#![tactic(auto)]
+
 pub mod explanation;
 pub mod records;
 pub mod rows;
@@ -9,7 +11,7 @@ pub use explanation::{
 pub use records::{Declaration, Link, Node, StoredParent};
 pub use rows::{Row, Transition};
 
-#[derive(Drop)]
+#[derive(Clone, Copy)]
 pub enum Phase {
     Inactive,
     Loading,
@@ -18,19 +20,19 @@ pub enum Phase {
 }
 
 // No parent, or the parent's identity.
-#[derive(Drop)]
+#[derive(Clone, Copy)]
 pub enum Parent {
     None,
     Of(usize),
 }
 
-#[derive(Drop)]
+#[derive(Clone, Copy)]
 pub struct Port {
     pub key: u64,
     pub realm: u64,
 }
 
-#[derive(Drop)]
+#[derive(Clone, Copy)]
 pub struct Binding {
     pub key: u64,
     pub realm: u64,
@@ -38,7 +40,7 @@ pub struct Binding {
 }
 
 // The kinds of refusal: the nine of lib.rs, in its order, and Damaged for an unsound kernel.
-#[derive(Drop)]
+#[derive(Clone, Copy)]
 pub enum Error {
     Unknown,
     InvalidState,
@@ -53,28 +55,28 @@ pub enum Error {
 }
 
 // The ports below the count; those past it are ignored. A count over 32 is a list that is too long.
-#[derive(Drop)]
+#[derive(Clone, Copy)]
 pub struct PortList {
     pub ports: [Port; 32],
     pub count: usize,
 }
 
 // What a command or a check answers.
-#[derive(Drop)]
+#[derive(Clone, Copy)]
 pub enum Answer {
     Done,
     Refused(Error),
 }
 
 // What insert answers: done with the new identity, or a refusal.
-#[derive(Drop)]
+#[derive(Clone, Copy)]
 pub enum InsertAnswer {
     Done(usize),
     Refused(Error),
 }
 
 // What resolve answers: the Active provider; a present owner that provides the port but is not Active; no present owner.
-#[derive(Drop)]
+#[derive(Clone, Copy)]
 pub enum Resolution {
     Provider(usize),
     NotActive(usize),
@@ -82,35 +84,35 @@ pub enum Resolution {
 }
 
 // A dependency that did not resolve: its port, and what looking it up answered.
-#[derive(Drop)]
+#[derive(Clone, Copy)]
 pub struct Unresolved {
     pub port: Port,
     pub found: Resolution,
 }
 
 // What target says is missing.
-#[derive(Drop)]
+#[derive(Clone, Copy)]
 pub enum OptionUnresolved {
     Some(Unresolved),
     None,
 }
 
 // What phase answers.
-#[derive(Drop)]
+#[derive(Clone, Copy)]
 pub enum OptionPhase {
     Some(Phase),
     None,
 }
 
 // What episode_generation answers.
-#[derive(Drop)]
+#[derive(Clone, Copy)]
 pub enum OptionGeneration {
     Some(u64),
     None,
 }
 
 // The commands that a drain is made of.
-#[derive(Drop)]
+#[derive(Clone, Copy)]
 pub enum StepCommand {
     Leave,
     BeginCleanup,
@@ -118,7 +120,7 @@ pub enum StepCommand {
 }
 
 // A step of a drain: a command, and the identity that it names.
-#[derive(Drop)]
+#[derive(Clone, Copy)]
 pub struct Step {
     pub command: StepCommand,
     pub id: usize,

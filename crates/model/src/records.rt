@@ -3,13 +3,13 @@
 use crate::{Phase, Port};
 
 // A parent as a node stores it.
-#[derive(Drop)]
+#[derive(Clone, Copy)]
 pub enum StoredParent {
     None,
     Of(u8),
 }
 
-#[derive(Drop)]
+#[derive(Clone, Copy)]
 pub struct Node {
     pub present: bool,
     pub retired: bool,
@@ -20,7 +20,7 @@ pub struct Node {
 }
 
 // provides: yes for a provision, no for a dependency.
-#[derive(Drop)]
+#[derive(Clone, Copy)]
 pub struct Declaration {
     pub port: Port,
     pub owner: u8,
@@ -28,7 +28,7 @@ pub struct Declaration {
 }
 
 // generation: the provider's at the begin that made the link.
-#[derive(Drop)]
+#[derive(Clone, Copy)]
 pub struct Link {
     pub key: u64,
     pub realm: u64,

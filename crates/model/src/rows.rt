@@ -1,6 +1,6 @@
 // What commands share: the rows by what they test of the component's node, and the transitions of a node.
 // The rows of the rules' table, by what they test of the component's node.
-#[derive(Drop)]
+#[derive(Clone, Copy)]
 pub enum Row {
     Present,
     Declare,
@@ -14,7 +14,7 @@ pub enum Row {
 }
 
 // The commands that write the node from nothing but itself; leave_if_changed writes as leave.
-#[derive(Drop)]
+#[derive(Clone, Copy)]
 pub enum Transition {
     Finish,
     Leave,

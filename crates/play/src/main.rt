@@ -1,78 +1,82 @@
 // Plays logs from standard input or from files, and prints a line for each command: its count from 0, a space, the answer.
+#![tactic(auto)]
+
 ghost use Rattle.std.specs.Prelude.{◌≡◌};
 ghost use Rattle.player.specs.Printed.{printed};
 
-use libc::{STDIN_FILENO, STDOUT_FILENO};
-use text::logs::{line, read_log, read_open, warn};
+use std::io;
+use std::io::Read;
+use text::logs::{argument, argument_count, line, read_log, read_open, warn};
 
-fn cannot_read(name: &[u8]) {
-    let mut out = io::large_buffer();
+fn cannot_read(rt: &HostRuntime, name: &[u8]) -> io::Result<()> {
+    let mut out = [0u8; 65536];
     let at = line(&mut out, 0, b"play", name, b" cannot be read");
-    warn(&out, at);
+    warn(rt.stderr(), &out, at)?;
+    Ok(())
 }
 
 // Writes what is printed of a log; that it is nothing else is what this program promises, since write itself promises nothing of the bytes.
-fn write_printed(log: &[u8], text: &[u8])
+fn write_printed(rt: &HostRuntime, log: &[u8], text: &[u8]) -> io::Result<()>
     requires { text.now ≡ printed log.now }
 {
-    io::write_all(STDOUT_FILENO, text);
+    rt.write_all(text)
 }
 
-fn play_log(log: &[u8]) {
+fn play_log(rt: &HostRuntime, log: &[u8]) -> io::Result<()> {
     let mut text = player::lines_buffer();
     let n = player::print(log, &mut text);
-    write_printed(log, &text[..n]);
+    write_printed(rt, log, &text[..n])
 }
 
 // A line with a log's name, if there are several.
-fn heading(name: &[u8], several: bool) {
+fn heading(rt: &HostRuntime, name: &[u8], several: bool) -> io::Result<()> {
     if several {
-        io::write_all(STDOUT_FILENO, b"== ");
-        io::write_all(STDOUT_FILENO, name);
-        io::write_all(STDOUT_FILENO, b"\n");
+        rt.write_all(b"== ")?;
+        rt.write_all(name)?;
+        rt.write_all(b"\n")?;
     }
+    Ok(())
 }
 
 // The first 65,536 bytes of what is open.
-fn play_open(fd: i32, name: &[u8]) {
-    let mut log = io::large_buffer();
-    let read = read_open(fd, &mut log);
+fn play_open(rt: &HostRuntime, file: &mut impl Read, name: &[u8]) -> io::Result<()> {
+    let mut log = [0u8; 65536];
+    let read = read_open(file, &mut log);
     if !read.whole {
-        cannot_read(name);
-        return;
+        return cannot_read(rt, name);
     }
     let n = read.count;
-    play_log(&log[0..n]);
+    play_log(rt, &log[0..n])
 }
 
 // The first 65,536 bytes of a file.
-fn play_file(name: &[u8], several: bool) {
-    let mut log = io::large_buffer();
-    let read = read_log(name, &mut log);
+fn play_file(rt: &HostRuntime, name: &[u8], several: bool) -> io::Result<()> {
+    let mut log = [0u8; 65536];
+    let read = read_log(rt, name, &mut log);
     if !read.whole {
-        cannot_read(name);
-        return;
+        return cannot_read(rt, name);
     }
-    heading(name, several);
+    heading(rt, name, several)?;
     let n = read.count;
-    play_log(&log[0..n]);
+    play_log(rt, &log[0..n])
 }
 
-fn play_argument(i: usize, several: bool) {
-    let mut name = io::buffer();
-    let n = os::arg(i, &mut name);
-    play_file(&name[..n], several);
+fn play_argument(rt: &HostRuntime, i: usize, several: bool) -> io::Result<()> {
+    let mut name = [0u8; 4096];
+    let n = argument(rt, i, &mut name);
+    play_file(rt, &name[..n], several)
 }
 
-fn main() {
-    let count = os::arg_count();
+fn main(rt: HostRuntime) -> io::Result<()> {
+    let count = argument_count(&rt);
     if count < 2 {
-        play_open(STDIN_FILENO, b"standard input");
+        play_open(&rt, &mut rt.stdin(), b"standard input")?;
     }
     let several = 2 < count;
     let mut i = 1;
     while i < count {
-        play_argument(i, several);
+        play_argument(&rt, i, several)?;
         i += 1;
     }
+    Ok(())
 }

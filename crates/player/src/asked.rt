@@ -19,8 +19,7 @@ fn write_asked(out: &mut [u8], at: usize, player: Player, asked: &[u8], index: u
 }
 
 // Plays the log and writes what is asked for after its commands, while 65,536 bytes of out are free. Gives how many bytes were written.
-#[unsafe(no_mangle)]
-pub extern "C" fn nobrighi_asked(log: &[u8], asked: &[u8], out: &mut [u8]) -> usize
+pub fn nobrighi_asked(log: &[u8], asked: &[u8], out: &mut [u8]) -> usize
     ensures { result ≤ length out.old }
 {
     let mut player = crate::commands::start();

@@ -11,7 +11,7 @@ use model::{InsertAnswer, Port, PortList};
 
 // at: the next byte of the log; answered: the answers written last; detail: of the last command, the identity that
 // an accepted insert issued or the count that an accepted compaction removed, else 0.
-#[derive(Drop)]
+#[derive(Clone, Copy)]
 pub struct Player {
     pub kernel: Kernel,
     pub dependencies: PortList,
@@ -21,6 +21,7 @@ pub struct Player {
     pub detail: u64,
 }
 
+#[tactic(auto, unfolding(model::specs::Lists::padded))]
 fn empty_list() -> PortList
     ensures { result ≡ port_list [] }
 {
@@ -33,6 +34,7 @@ fn empty_list() -> PortList
 }
 
 // The empty kernel, before the log's first byte.
+#[tactic(auto, unfolding(crate::specs::Played::state_after, crate::specs::Players::last_detail))]
 pub fn start() -> Player
     ensures { result ≡ player_after fresh [] }
 {
@@ -49,6 +51,7 @@ pub fn start() -> Player
 }
 
 // What adding a port answers: 9 if there are 32.
+#[tactic(auto, unfolding(crate::specs::Played::addition))]
 fn addition(list: PortList) -> u8
     ensures { result ≡ additionTo list }
 {
@@ -56,6 +59,7 @@ fn addition(list: PortList) -> u8
 }
 
 // The port after the others; a list of 32 stays.
+#[tactic(auto, unfolding(crate::specs::Played::with_port))]
 fn added(mut list: PortList, port: Port) -> PortList
     ensures { result ≡ with_port list port }
 {

@@ -1,4 +1,6 @@
-// Logs of commands played on the kernel and printed, and the functions exported for Rust: three here, one in asked, one in times.
+// Logs of commands played on the kernel and printed, and the functions that player_c exports for Rust: three here, one in asked, one in times.
+#![tactic(auto)]
+
 ghost use Rattle.std.specs.Prelude.{◌≤◌, length};
 ghost use Rattle.player.specs.Played.{answers_of, fresh, turns};
 ghost use Rattle.player.specs.Printed.{printed};
@@ -15,13 +17,14 @@ pub mod put;
 mod tables;
 mod times;
 
+pub use asked::nobrighi_asked;
 pub use commands::{Player, play, start};
 pub use drains::play_drain;
 pub use printing::{lines, lines_buffer, print};
+pub use times::nobrighi_times;
 
 // Plays all of the log from the empty kernel; answers[i] is the i-th answer. Gives how many were written.
-#[unsafe(no_mangle)]
-pub extern "C" fn nobrighi_play(log: &[u8], answers: &mut [u8]) -> usize
+pub fn nobrighi_play(log: &[u8], answers: &mut [u8]) -> usize
     ensures { Puts (answers_of (turns fresh log.now)) answers.old 0 answers.new result }
 {
     let played = play(start(), log, answers);
@@ -29,8 +32,7 @@ pub extern "C" fn nobrighi_play(log: &[u8], answers: &mut [u8]) -> usize
 }
 
 // Writes what is printed of the log's first 65,536 bytes. Gives how many bytes were written.
-#[unsafe(no_mangle)]
-pub extern "C" fn nobrighi_print(log: &[u8], out: &mut [u8]) -> usize
+pub fn nobrighi_print(log: &[u8], out: &mut [u8]) -> usize
     ensures { Puts (printed log.now) out.old 0 out.new result }
 {
     print(log, out)
@@ -55,13 +57,7 @@ fn write_record(
 
 // Plays the log and writes a record after each command, also for an 11 or a 12, while 65,536 bytes of out are free.
 // Gives how many bytes were written.
-#[unsafe(no_mangle)]
-pub extern "C" fn nobrighi_record(
-    log: &[u8],
-    questions: &[u8],
-    every: usize,
-    out: &mut [u8],
-) -> usize
+pub fn nobrighi_record(log: &[u8], questions: &[u8], every: usize, out: &mut [u8]) -> usize
     ensures { result ≤ length out.old }
 {
     let mut player = start();

@@ -11,6 +11,7 @@ pub const LIMIT: usize = 65536;
 const LENGTHS: [usize; 16] = [16, 16, 1, 1, 1, 1, 1, 1, 1, 1, 1, 0, 0, 17, 17, 1];
 
 // The operand length of a command byte, 0 for a byte outside 01 to 10.
+#[tactic(auto, unfolding(crate::specs::Log::operand_length))]
 pub fn length_of(byte: u8) -> usize
     ensures { result ≡ operand_length byte }
 {

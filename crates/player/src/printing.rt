@@ -13,11 +13,18 @@ use crate::log::LIMIT;
 // What a log prints has at most this many bytes: a line for each of 65,536, with nine bytes each.
 const LINES: usize = 589824;
 
+// Zeros, of any size: a proof need not look into them.
+fn zeros<const N: usize>() -> [u8; N]
+    ensures { N ≡ length result }
+{
+    [0; N]
+}
+
 // A buffer for all that a log prints. The `ensures` gives only the length, which lending it as a slice needs.
 pub fn lines_buffer() -> [u8; LINES]
     ensures { line_limit * log_limit ≡ length result }
 {
-    [0; LINES]
+    zeros::<LINES>()
 }
 
 // The answers of the first 65,536 bytes; gives how many were written.
@@ -56,7 +63,7 @@ pub fn lines(out: &mut [u8], answers: &[u8], count: usize) -> usize
 pub fn print(log: &[u8], out: &mut [u8]) -> usize
     ensures { Puts (printed log.now) out.old 0 out.new result }
 {
-    let mut answers = io::large_buffer();
+    let mut answers = zeros::<LIMIT>();
     let count = play_log(log, &mut answers);
     lines(out, &answers, count)
 }

@@ -44,14 +44,7 @@ fn said(out: &mut [u8], kernel: Kernel, what: usize, id: usize) -> usize
 }
 
 // Plays the log, its answers in out, then so many times writes over their start what is said of its kernel. Gives how many bytes the last took.
-#[unsafe(no_mangle)]
-pub extern "C" fn nobrighi_times(
-    log: &[u8],
-    what: usize,
-    id: usize,
-    times: usize,
-    out: &mut [u8],
-) -> usize
+pub fn nobrighi_times(log: &[u8], what: usize, id: usize, times: usize, out: &mut [u8]) -> usize
     ensures { result ≤ length out.old }
 {
     let player = crate::commands::play(crate::commands::start(), log, out);

@@ -182,8 +182,7 @@ pub fn written(out: &mut [u8], at: usize, why: LogExplanation) -> usize
 }
 
 // Plays the log and writes the explanation of each command, 44 bytes, on the kernel before it, while there is room. Gives how many bytes were written.
-#[unsafe(no_mangle)]
-pub extern "C" fn nobrighi_explained(log: &[u8], out: &mut [u8]) -> usize
+pub fn nobrighi_explained(log: &[u8], out: &mut [u8]) -> usize
     ensures { result ≤ length out.old }
 {
     let mut player = start();

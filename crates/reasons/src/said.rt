@@ -11,7 +11,7 @@ use player::{Player, log};
 
 // What is said of a log's command: the log has none of this number; a byte outside 01 to 10 (11); operands that are cut (12); a port for a list that has
 // so many (9); a command of the kernel, or a port that is added, which is accepted.
-#[derive(Drop)]
+#[derive(Clone, Copy)]
 pub enum LogExplanation {
     NoCommand,
     Unknown,

@@ -87,13 +87,7 @@ fn of_next(out: &mut [u8], player: Player, call: Call, log: &[u8], what: usize) 
 
 // Plays as many of the log's commands as out has bytes, its answers in out, then so many times writes over their start what is said of the next one.
 // Gives how many bytes the last took.
-#[unsafe(no_mangle)]
-pub extern "C" fn nobrighi_explain_times(
-    log: &[u8],
-    what: usize,
-    times: usize,
-    out: &mut [u8],
-) -> usize
+pub fn nobrighi_explain_times(log: &[u8], what: usize, times: usize, out: &mut [u8]) -> usize
     ensures { result ≤ length out.old }
 {
     let player = play(start(), log, out);

@@ -26,6 +26,7 @@ pub fn check(row: Row, node: Node) -> Answer
 }
 
 // release_provision and retire: present.
+#[tactic(auto, unfolding(model::specs::Refusals::first))]
 pub fn check_present(node: Node) -> Answer
     ensures { result ≡ checked (present_tests node) }
 {
@@ -36,6 +37,7 @@ pub fn check_present(node: Node) -> Answer
 }
 
 // declare_provision: present, not retired, and Loading, Active or never begun.
+#[tactic(auto, unfolding(model::specs::Refusals::first))]
 pub fn check_declare(node: Node) -> Answer
     ensures { result ≡ checked (declare_node_tests node) }
 {
@@ -54,6 +56,7 @@ pub fn check_declare(node: Node) -> Answer
 }
 
 // configure_pending_dependencies: present, not retired, and never begun.
+#[tactic(auto, unfolding(model::specs::Refusals::first))]
 pub fn check_configure(node: Node) -> Answer
     ensures { result ≡ checked (configure_node_tests node) }
 {
@@ -70,6 +73,7 @@ pub fn check_configure(node: Node) -> Answer
 }
 
 // begin: present, Inactive, not retired, and with a next generation.
+#[tactic(auto, unfolding(model::specs::Refusals::first))]
 pub fn check_begin(node: Node) -> Answer
     ensures { result ≡ checked (begin_node_tests node) }
 {
@@ -90,6 +94,7 @@ pub fn check_begin(node: Node) -> Answer
 }
 
 // check_iteration and finish: present and Loading.
+#[tactic(auto, unfolding(model::specs::Refusals::first))]
 pub fn check_loading(node: Node) -> Answer
     ensures { result ≡ checked (loading_tests node) }
 {
@@ -104,6 +109,7 @@ pub fn check_loading(node: Node) -> Answer
 }
 
 // leave and leave_if_changed: present, and Loading or Active.
+#[tactic(auto, unfolding(model::specs::Refusals::first))]
 pub fn check_running(node: Node) -> Answer
     ensures { result ≡ checked (running_tests node) }
 {
@@ -118,6 +124,7 @@ pub fn check_running(node: Node) -> Answer
 }
 
 // begin_cleanup: present, Unloading, and not restoring.
+#[tactic(auto, unfolding(model::specs::Refusals::first))]
 pub fn check_unloading(node: Node) -> Answer
     ensures { result ≡ checked (unloading_tests node) }
 {
@@ -133,6 +140,7 @@ pub fn check_unloading(node: Node) -> Answer
 }
 
 // finish_cleanup: present and restoring.
+#[tactic(auto, unfolding(model::specs::Refusals::first))]
 pub fn check_restoring(node: Node) -> Answer
     ensures { result ≡ checked (restoring_tests node) }
 {
@@ -146,6 +154,7 @@ pub fn check_restoring(node: Node) -> Answer
 }
 
 // remove: present, retired and Inactive.
+#[tactic(auto, unfolding(model::specs::Refusals::first))]
 pub fn check_retired(node: Node) -> Answer
     ensures { result ≡ checked (retired_tests node) }
 {
@@ -161,6 +170,7 @@ pub fn check_retired(node: Node) -> Answer
 }
 
 // update_node: whether this node, written for this identity, would leave a live link without its consumer or its provider.
+#[tactic(auto, unfolding(model::specs::UpdateNode::blocks))]
 pub fn blocks(id: usize, node: Node, link: Link) -> bool
     ensures { result ≡ blocks id node link }
 {

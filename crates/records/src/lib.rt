@@ -1,4 +1,6 @@
 // Functions on one record: read, made, tested, changed.
+#![tactic(auto)]
+
 pub mod answers;
 pub mod checks;
 pub mod phases;

@@ -210,6 +210,7 @@ pub fn is_blank_link(link: Link) -> bool
 }
 
 // A declaration that is blank exactly when both are.
+#[tactic(auto, using(model::proofs::Laws::Blanks::either_declaration_lem))]
 pub fn either_declaration(a: Declaration, b: Declaration) -> Declaration
     ensures { is_blank_declaration result ≡ is_blank_declaration a && is_blank_declaration b }
 {
@@ -226,6 +227,7 @@ pub fn either_declaration(a: Declaration, b: Declaration) -> Declaration
 }
 
 // A link that is blank exactly when both are.
+#[tactic(auto, using(model::proofs::Laws::Blanks::either_link_lem))]
 pub fn either_link(a: Link, b: Link) -> Link
     ensures { is_blank_link result ≡ is_blank_link a && is_blank_link b }
 {

@@ -100,6 +100,7 @@ pub fn is_providing(node: Node) -> bool
 }
 
 // A declaration of this owner and port, a provision or a dependency.
+#[tactic(auto, unfolding(model::specs::Soundness::is_declaration))]
 pub fn is_declaration(owner: usize, port: Port, provides: bool, declaration: Declaration) -> bool
     ensures { result ≡ is_declaration owner port provides declaration }
 {
@@ -109,6 +110,7 @@ pub fn is_declaration(owner: usize, port: Port, provides: bool, declaration: Dec
 }
 
 // A dependency of this component.
+#[tactic(auto, unfolding(model::specs::Resolution::is_dependency_of))]
 pub fn is_dependency_of(id: usize, declaration: Declaration) -> bool
     ensures { result ≡ is_dependency_of id declaration }
 {
@@ -116,6 +118,7 @@ pub fn is_dependency_of(id: usize, declaration: Declaration) -> bool
 }
 
 // A live link of this consumer.
+#[tactic(auto, unfolding(model::specs::Resolution::is_live_link_of))]
 pub fn is_live_link_of(id: usize, link: Link) -> bool
     ensures { result ≡ is_live_link_of id link }
 {
@@ -123,6 +126,7 @@ pub fn is_live_link_of(id: usize, link: Link) -> bool
 }
 
 // A live link of this consumer with this port.
+#[tactic(auto, unfolding(model::specs::Soundness::links_to))]
 pub fn links_to(consumer: usize, port: Port, link: Link) -> bool
     ensures { result ≡ links_to consumer port link }
 {
@@ -132,6 +136,7 @@ pub fn links_to(consumer: usize, port: Port, link: Link) -> bool
 }
 
 // A live link with this provider and port.
+#[tactic(auto, unfolding(model::specs::Interface::relies_on))]
 pub fn relies_on(id: usize, port: Port, link: Link) -> bool
     ensures { result ≡ relies_on id port link }
 {

@@ -1,66 +1,70 @@
 // Plays logs of commands: an answer on a line for each command, then the tables, then a line for each present component.
-use libc::{STDERR_FILENO, STDIN_FILENO};
+#![tactic(auto)]
 
-fn cannot_read(name: &[u8]) {
-    io::write_all(STDERR_FILENO, b"replay: cannot read ");
-    io::write_all(STDERR_FILENO, name);
-    io::write_all(STDERR_FILENO, b"\n");
+use std::io;
+use std::io::Read;
+use text::logs::{argument, argument_count, open, read_open};
+
+fn cannot_read(rt: &HostRuntime, name: &[u8]) -> io::Result<()> {
+    let stderr = rt.stderr();
+    stderr.write_all(b"replay: cannot read ")?;
+    stderr.write_all(name)?;
+    stderr.write_all(b"\n")
 }
 
 // Writes a line for each of the first answers.
-fn write_answers(answers: &[u8], count: usize) {
+fn write_answers(rt: &HostRuntime, answers: &[u8], count: usize) -> io::Result<()> {
     let mut lines = player::lines_buffer();
     let n = player::lines(&mut lines, answers, count);
-    text::flush(&lines, n);
+    text::flush(rt, &lines, n)?;
+    Ok(())
 }
 
 // Plays the first 65,536 bytes of what is open.
-fn replay(fd: i32, name: &[u8]) {
-    let mut log = io::large_buffer();
-    let n = io::read_full(fd, &mut log);
-    let mut more = [0u8; 1];
-    if libc::read(fd, &mut more) < 0 {
-        cannot_read(name);
-        return;
+fn replay(rt: &HostRuntime, file: &mut impl Read, name: &[u8]) -> io::Result<()> {
+    let mut log = [0u8; 65536];
+    let read = read_open(file, &mut log);
+    if !read.whole {
+        return cannot_read(rt, name);
     }
-    let mut given = io::large_buffer();
+    let n = read.count;
+    let mut given = [0u8; 65536];
     let played = player::play(player::start(), &log[..n], &mut given);
     let kernel = played.kernel;
-    write_answers(&given, played.answered);
-    let mut out = io::large_buffer();
-    let at = text::stored::tables(&mut out, 0, kernel);
-    let at = text::status::components(&mut out, at, kernel);
-    text::flush(&out, at);
+    write_answers(rt, &given, played.answered)?;
+    let mut out = [0u8; 65536];
+    let at = text::stored::tables(rt, &mut out, 0, kernel)?;
+    let at = text::status::components(rt, &mut out, at, kernel)?;
+    text::flush(rt, &out, at)?;
+    Ok(())
 }
 
 // A line with the name, then its log.
-fn replay_file(name: &[u8]) {
-    let fd = os::open_read(name);
-    if fd < 0 {
-        cannot_read(name);
-        return;
-    }
-    io::write_all(1, b"== ");
-    io::write_all(1, name);
-    io::write_all(1, b"\n");
-    replay(fd, name);
-    libc::close(fd);
+fn replay_file(rt: &HostRuntime, name: &[u8]) -> io::Result<()> {
+    let Some(mut file) = open(rt, name) else {
+        return cannot_read(rt, name);
+    };
+    rt.write_all(b"== ")?;
+    rt.write_all(name)?;
+    rt.write_all(b"\n")?;
+    replay(rt, &mut file, name)
 }
 
-fn replay_argument(i: usize) {
-    let mut name = io::buffer();
-    let n = os::arg(i, &mut name);
-    replay_file(&name[..n]);
+fn replay_argument(rt: &HostRuntime, i: usize) -> io::Result<()> {
+    let mut name = [0u8; 4096];
+    let n = argument(rt, i, &mut name);
+    replay_file(rt, &name[..n])
 }
 
-fn main() {
-    let count = os::arg_count();
+fn main(rt: HostRuntime) -> io::Result<()> {
+    let count = argument_count(&rt);
     if count < 2 {
-        replay(STDIN_FILENO, b"standard input");
+        replay(&rt, &mut rt.stdin(), b"standard input")?;
     }
     let mut i = 1;
     while i < count {
-        replay_argument(i);
+        replay_argument(&rt, i)?;
         i += 1;
     }
+    Ok(())
 }

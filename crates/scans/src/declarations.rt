@@ -35,6 +35,7 @@ pub fn declares_in(
 }
 
 // Whether this is a provision of the port by a present owner; present tells who is.
+#[tactic(auto, unfolding(model::specs::Resolution::offers))]
 pub fn offers(present: &[bool; IDENTITIES], port: Port, d: Declaration) -> bool
     ensures { result ≡ offers (flag IDENTITIES present.now) port d }
 {

@@ -1,4 +1,6 @@
 // The loops that read a kernel's tables. A table of records comes by value, once a call; what a loop calls is lent columns or gets single records.
+#![tactic(auto)]
+
 use sizes::IDENTITIES;
 
 mod columns;
@@ -16,7 +18,7 @@ pub use resolution::{committed_in, link_generation_in, no_target, resolve_table,
 pub use updates::update_node;
 
 // Of each identity: whether its node is present, and whether it is present and Active.
-#[derive(Drop)]
+#[derive(Clone, Copy)]
 pub struct NodeFlags {
     pub present: [bool; IDENTITIES],
     pub providing: [bool; IDENTITIES],

@@ -1,5 +1,7 @@
 // How many nodes, declarations and links a kernel holds: the code's side of specs/Sizes.antt.
 
+#![tactic(auto)]
+
 pub const IDENTITIES: usize = 64;
 
 pub const DECLARATIONS: usize = 256;

@@ -1,5 +1,2 @@
--- What the proofs of the two functions over slices cite.
-pub mod Walk
+-- What the proof of port_list cites.
 pub mod Copies
-pub mod Calls
-pub mod Steps

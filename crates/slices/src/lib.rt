@@ -1,4 +1,6 @@
 // check_insert over two lent slices of ports, as in lib.rs. Only port_list and check_insert touch a slice.
+#![tactic(auto)]
+
 ghost use Rattle.std.specs.Prelude.{◌≡◌, [], ◌<◌};
 ghost use Rattle.kernel.specs.Fields.{ask};
 ghost use Rattle.model.specs.Answers.{answer};
@@ -21,6 +23,7 @@ fn kept(count: usize) -> usize
 }
 
 // A list of blank ports with this count.
+#[tactic(auto, unfolding(crate::specs::Copies::copy_of, model::specs::Lists::padded))]
 fn blank_list(count: usize) -> PortList
     ensures { result ≡ copy_of count [] }
 {

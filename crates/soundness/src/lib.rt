@@ -1,4 +1,6 @@
 // The entry test of every command and check: whether a kernel's tables are sound, in one pass over each.
+#![tactic(auto)]
+
 ghost use Rattle.std.specs.Prelude.{◌≡◌, Bool, false, List, ℕ, ◌<◌, get_or, take};
 ghost use Rattle.model.specs.Lists.{all, any};
 ghost use Rattle.model.specs.Layouts.{sound_kernel};

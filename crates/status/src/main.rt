@@ -1,25 +1,28 @@
 // The status that a log leaves: plays it, and writes a line for each present component.
-use text::logs::{early, last_answer, line, read_log, warn};
+#![tactic(auto)]
 
-fn cannot_read(name: &[u8]) {
-    let mut out = io::large_buffer();
+use std::io;
+use text::logs::{argument, argument_count, early, last_answer, line, read_log, warn};
+
+fn cannot_read(rt: &HostRuntime, name: &[u8]) -> io::Result<()> {
+    let mut out = [0u8; 65536];
     let at = line(&mut out, 0, b"status", name, b" cannot be read");
-    warn(&out, at);
+    warn(rt.stderr(), &out, at)?;
+    Ok(())
 }
 
 // The first 65,536 bytes of a file, played.
-fn show_file(name: &[u8]) {
-    let mut log = io::large_buffer();
-    let read = read_log(name, &mut log);
+fn show_file(rt: &HostRuntime, name: &[u8]) -> io::Result<()> {
+    let mut log = [0u8; 65536];
+    let read = read_log(rt, name, &mut log);
     if !read.whole {
-        cannot_read(name);
-        return;
+        return cannot_read(rt, name);
     }
     let n = read.count;
-    let mut answers = io::large_buffer();
+    let mut answers = [0u8; 65536];
     let played = player::play(player::start(), &log[0..n], &mut answers);
     let kernel = played.kernel;
-    let mut out = io::large_buffer();
+    let mut out = [0u8; 65536];
     let at = early(
         &mut out,
         0,
@@ -27,22 +30,24 @@ fn show_file(name: &[u8]) {
         name,
         last_answer(&answers, played.answered),
     );
-    warn(&out, at);
-    let at = text::status::components(&mut out, 0, kernel);
-    text::flush(&out, at);
+    warn(rt.stderr(), &out, at)?;
+    let at = text::status::components(rt, &mut out, 0, kernel)?;
+    text::flush(rt, &out, at)?;
+    Ok(())
 }
 
-fn show_argument(i: usize) {
-    let mut name = io::buffer();
-    let n = os::arg(i, &mut name);
-    show_file(&name[..n]);
+fn show_argument(rt: &HostRuntime, i: usize) -> io::Result<()> {
+    let mut name = [0u8; 4096];
+    let n = argument(rt, i, &mut name);
+    show_file(rt, &name[..n])
 }
 
-fn main() {
-    let count = os::arg_count();
+fn main(rt: HostRuntime) -> io::Result<()> {
+    let count = argument_count(&rt);
     let mut i = 1;
     while i < count {
-        show_argument(i);
+        show_argument(&rt, i)?;
         i += 1;
     }
+    Ok(())
 }

@@ -1,6 +1,8 @@
 // Text gathered in a buffer and written when little of it is free: numbers, records, tables and answers; and lines read.
 // Each function that writes gives the place after what it put, at most the length; a byte past the end is left out.
-ghost use Rattle.std.specs.Prelude.{◌≡◌, ◌≤◌, ◌∷◌, length};
+#![tactic(auto)]
+
+ghost use Rattle.std.specs.Prelude.{◌≡◌, ◌≤◌, ◌∷◌, IfOk, drop, length};
 ghost use Rattle.text.specs.Written.{Puts, decimal};
 
 pub mod answers;
@@ -12,16 +14,16 @@ pub mod steps;
 pub mod stored;
 pub mod words;
 
-use libc::STDOUT_FILENO;
+use std::io;
 
 // Writes what is gathered; the next place is the start.
-pub fn flush(out: &[u8], at: usize) -> usize
-    ensures { result ≡ 0 }
+pub fn flush(rt: &impl Print, out: &[u8], at: usize) -> io::Result<usize>
+    ensures { IfOk result (λ n. n ≡ 0) }
 {
     if at <= out.len() {
-        io::write_all(STDOUT_FILENO, &out[0..at]);
+        rt.write_all(&out[0..at])?;
     }
-    0
+    Ok(0)
 }
 
 pub fn bytes(out: &mut [u8], at: usize, bytes: &[u8]) -> usize
@@ -41,13 +43,30 @@ pub fn bytes(out: &mut [u8], at: usize, bytes: &[u8]) -> usize
     at
 }
 
+// Puts a number's digits at the end of the array; gives the place of the first.
+fn put_digits(n: u64, digits: &mut [u8; 20]) -> usize
+    ensures in_bounds { result ≤ 20 }
+    ensures digits { drop result digits.new ≡ decimal n }
+{
+    let mut at = 20;
+    let mut rest = n;
+    while 10 <= rest {
+        at -= 1;
+        digits[at] = b'0' + (rest % 10) as u8;
+        rest /= 10;
+    }
+    at -= 1;
+    digits[at] = b'0' + rest as u8;
+    at
+}
+
 pub fn number(out: &mut [u8], at: usize, n: u64) -> usize
     ensures upper_bound { result ≤ length out.old }
     ensures puts { Puts (decimal n) out.old at out.new result }
 {
     let mut digits = [0u8; 20];
-    let k = io::decimal(n, &mut digits);
-    bytes(out, at, &digits[..k])
+    let first = put_digits(n, &mut digits);
+    bytes(out, at, &digits[first..])
 }
 
 // A space and a number.
@@ -78,12 +97,12 @@ pub fn flag(out: &mut [u8], at: usize, flag: bool) -> usize
 }
 
 // Ends the line; writes what is gathered once it is over 60,000 bytes.
-pub fn end(out: &mut [u8], at: usize) -> usize
-    ensures { result ≤ length out.old }
+pub fn end(rt: &impl Print, out: &mut [u8], at: usize) -> io::Result<usize>
+    ensures { IfOk result (λ n. n ≤ length out.old) }
 {
     let at = bytes(out, at, b"\n");
     if 60000 < at {
-        return flush(out, at);
+        return flush(rt, out, at);
     }
-    at
+    Ok(at)
 }

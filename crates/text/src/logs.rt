@@ -1,9 +1,30 @@
 // A log read from a file, and what is said of one that is played, for the programs.
-ghost use Rattle.std.specs.Prelude.{◌≡◌, ◌≤◌, length};
+ghost use Rattle.std.specs.Prelude.{◌≡◌, ◌≤◌, IfOk, length};
 ghost use Rattle.text.specs.Logs.{last_answer};
 
 use crate::bytes;
-use libc::STDERR_FILENO;
+use std::env::{Env, FillError};
+use std::fs::File;
+use std::io::{Read, Stderr};
+use std::rt::Files;
+use std::{io, str};
+
+// How many arguments the program has, its own name among them.
+pub fn argument_count(rt: &impl Env) -> usize {
+    for i in 0..usize::MAX {
+        if let Err(FillError::NotPresent) = rt.arg(i, &mut []) {
+            return i;
+        }
+    }
+    usize::MAX
+}
+
+// Puts an argument at the start of the buffer, and gives its length; 0 if there is none, or no room for it.
+pub fn argument(rt: &impl Env, i: usize, out: &mut [u8]) -> usize
+    ensures { result ≤ length out.old }
+{
+    rt.arg(i, out).unwrap_or(0)
+}
 
 // The last of the first answers, 0 if there is none.
 pub fn last_answer(answers: &[u8], count: usize) -> u8
@@ -74,7 +95,7 @@ pub fn early(out: &mut [u8], at: usize, program: &[u8], name: &[u8], answer: u8)
 }
 
 // What was read of a file: whether it could be opened, how many bytes there were, and whether it could be read to its end or until there was no room.
-#[derive(Drop)]
+#[derive(Clone, Copy)]
 pub struct LogRead {
     pub opened: bool,
     pub count: usize,
@@ -92,65 +113,68 @@ fn not_opened() -> LogRead
 }
 
 // The first bytes of what is open.
-pub fn read_open(fd: i32, log: &mut [u8]) -> LogRead
+pub fn read_open(file: &mut impl Read, log: &mut [u8]) -> LogRead
     ensures { result.count ≤ length log.old }
 {
-    let count = io::read_full(fd, log);
-    if count == log.len() {
-        return LogRead {
-            opened: true,
-            count: count,
-            whole: true,
+    let mut count = 0;
+    let mut whole = true;
+    while count < log.len() {
+        let Ok(more) = file.read(&mut log[count..]) else {
+            whole = false;
+            break;
         };
+        if more == 0 {
+            break;
+        }
+        count += more;
     }
-    let mut more = [0u8; 1];
-    let behind = libc::read(fd, &mut more);
     LogRead {
         opened: true,
         count: count,
-        whole: 0 <= behind,
+        whole: whole,
     }
+}
+
+// A file opened for reading, if it can be.
+pub fn open<R: Files>(rt: &R, name: &[u8]) -> Option<R::File> {
+    let path = str::from_utf8(name).ok()?;
+    File::open(rt, path).ok()
 }
 
 // The first bytes of a file, as many as there is room for.
-pub fn read_log(name: &[u8], log: &mut [u8]) -> LogRead
+pub fn read_log(rt: &impl Files, name: &[u8], log: &mut [u8]) -> LogRead
     ensures { result.count ≤ length log.old }
 {
-    let fd = os::open_read(name);
-    if fd < 0 {
+    let Some(mut file) = open(rt, name) else {
         return not_opened();
-    }
-    let read = read_open(fd, log);
-    libc::close(fd);
-    read
+    };
+    read_open(&mut file, log)
 }
 
 // Writes what is gathered to standard error; the next place is the start.
-pub fn warn(out: &[u8], at: usize) -> usize
-    ensures { result ≡ 0 }
+pub fn warn(stderr: Stderr, out: &[u8], at: usize) -> io::Result<usize>
+    ensures { IfOk result (λ n. n ≡ 0) }
 {
-    if at <= out.len() {
-        io::write_all(STDERR_FILENO, &out[0..at]);
-    }
-    0
+    crate::flush(&stderr, out, at)
 }
 
 // Says of a log that it could not be read whole or that this answer ended it, and then what is made of it, or of a file that was not opened; nothing of another log.
 pub fn tell(
+    stderr: Stderr,
     program: &[u8],
     name: &[u8],
     read: LogRead,
     answer: u8,
     made: &[u8],
     not_played: &[u8],
-) -> usize
-    ensures { result ≡ 0 }
+) -> io::Result<usize>
+    ensures { IfOk result (λ n. n ≡ 0) }
 {
     let opened = read.opened;
-    let mut said = io::large_buffer();
+    let mut said = [0u8; 65536];
     let at = line_if(&mut said, 0, !read.whole, program, name, b" cannot be read");
     let at = early(&mut said, at, program, name, answer);
     let at = line_if(&mut said, at, opened & (0 < at), program, name, made);
     let at = line_if(&mut said, at, !opened, program, name, not_played);
-    warn(&said, at)
+    warn(stderr, &said, at)
 }

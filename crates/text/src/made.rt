@@ -77,6 +77,7 @@ pub fn link_of(line: Line) -> Link
 }
 
 // The empty list.
+#[tactic(auto, unfolding(model::specs::Lists::padded))]
 pub fn no_ports() -> PortList
     ensures { result ≡ port_list [] }
 {

@@ -1,11 +1,12 @@
 // The status of a kernel in words: a line for each present component, or a shorter one for each of a list.
-ghost use Rattle.std.specs.Prelude.{◌≤◌, length};
+ghost use Rattle.std.specs.Prelude.{◌≤◌, IfOk, length};
 
 use crate::{answers, bytes, either, end, field};
 use kernel::Kernel;
 use model::{OptionUnresolved, Port, Resolution, Unresolved};
 use results::Identities;
 use sizes::IDENTITIES;
+use std::io;
 
 // Why a dependency did not resolve.
 fn reason(out: &mut [u8], at: usize, found: Resolution) -> usize
@@ -91,38 +92,58 @@ fn rest_if(out: &mut [u8], at: usize, wanted: bool, kernel: Kernel, id: usize) -
 }
 
 // The line of one component: its phase alone, or all of its status.
-fn component(out: &mut [u8], at: usize, kernel: Kernel, id: usize, all: bool) -> usize
-    ensures { result ≤ length out.old }
+fn component(
+    rt: &impl Print,
+    out: &mut [u8],
+    at: usize,
+    kernel: Kernel,
+    id: usize,
+    all: bool,
+) -> io::Result<usize>
+    ensures { IfOk result (λ n. n ≤ length out.old) }
 {
     let at = phase(out, at, kernel, id);
     let at = rest_if(out, at, all, kernel, id);
-    end(out, at)
+    end(rt, out, at)
 }
 
 // A line for each component of a list, in its order.
-fn lines(out: &mut [u8], at: usize, kernel: Kernel, list: Identities, all: bool) -> usize
-    ensures { result ≤ length out.old }
+fn lines(
+    rt: &impl Print,
+    out: &mut [u8],
+    at: usize,
+    kernel: Kernel,
+    list: Identities,
+    all: bool,
+) -> io::Result<usize>
+    ensures { IfOk result (λ n. n ≤ length out.old) }
 {
     let count = loops::at_most(list.count, IDENTITIES);
     let mut at = loops::at_most(at, out.len());
     let mut i = 0;
     while i < count {
-        at = component(out, at, kernel, list.ids[i], all);
+        at = component(rt, out, at, kernel, list.ids[i], all)?;
         i += 1;
     }
-    at
+    Ok(at)
 }
 
 // A line for each present component, ascending.
-pub fn components(out: &mut [u8], at: usize, kernel: Kernel) -> usize
-    ensures { result ≤ length out.old }
+pub fn components(rt: &impl Print, out: &mut [u8], at: usize, kernel: Kernel) -> io::Result<usize>
+    ensures { IfOk result (λ n. n ≤ length out.old) }
 {
-    lines(out, at, kernel, kernel.ids(), true)
+    lines(rt, out, at, kernel, kernel.ids(), true)
 }
 
 // A line for each component of a list: its phase.
-pub fn phases(out: &mut [u8], at: usize, kernel: Kernel, list: Identities) -> usize
-    ensures { result ≤ length out.old }
+pub fn phases(
+    rt: &impl Print,
+    out: &mut [u8],
+    at: usize,
+    kernel: Kernel,
+    list: Identities,
+) -> io::Result<usize>
+    ensures { IfOk result (λ n. n ≤ length out.old) }
 {
-    lines(out, at, kernel, list, false)
+    lines(rt, out, at, kernel, list, false)
 }

@@ -1,10 +1,11 @@
 // The tables: the counts, then a line for each record below them.
-ghost use Rattle.std.specs.Prelude.{◌≤◌, length};
+ghost use Rattle.std.specs.Prelude.{◌≤◌, IfOk, length};
 
 use crate::{bytes, end, field, flag};
 use kernel::Kernel;
 use model::{Declaration, Link, Node, Parent, Phase};
 use sizes::{DECLARATIONS, IDENTITIES, LINKS};
+use std::io;
 
 pub fn phase(out: &mut [u8], at: usize, phase: Phase) -> usize
     ensures { result ≤ length out.old }
@@ -26,8 +27,8 @@ fn parent(out: &mut [u8], at: usize, parent: Parent) -> usize
     }
 }
 
-fn node(out: &mut [u8], at: usize, place: usize, node: Node) -> usize
-    ensures { result ≤ length out.old }
+fn node(rt: &impl Print, out: &mut [u8], at: usize, place: usize, node: Node) -> io::Result<usize>
+    ensures { IfOk result (λ n. n ≤ length out.old) }
 {
     let now = node.phase;
     let above = records::parent_in(node);
@@ -39,11 +40,17 @@ fn node(out: &mut [u8], at: usize, place: usize, node: Node) -> usize
     let at = flag(out, at, node.restoring);
     let at = parent(out, at, above);
     let at = field(out, at, node.generation);
-    end(out, at)
+    end(rt, out, at)
 }
 
-fn declaration(out: &mut [u8], at: usize, place: usize, declaration: Declaration) -> usize
-    ensures { result ≤ length out.old }
+fn declaration(
+    rt: &impl Print,
+    out: &mut [u8],
+    at: usize,
+    place: usize,
+    declaration: Declaration,
+) -> io::Result<usize>
+    ensures { IfOk result (λ n. n ≤ length out.old) }
 {
     let port = records::declared_port(declaration);
     let at = bytes(out, at, b"decl");
@@ -52,11 +59,11 @@ fn declaration(out: &mut [u8], at: usize, place: usize, declaration: Declaration
     let at = field(out, at, port.key);
     let at = field(out, at, port.realm);
     let at = flag(out, at, declaration.provides);
-    end(out, at)
+    end(rt, out, at)
 }
 
-fn link(out: &mut [u8], at: usize, place: usize, link: Link) -> usize
-    ensures { result ≤ length out.old }
+fn link(rt: &impl Print, out: &mut [u8], at: usize, place: usize, link: Link) -> io::Result<usize>
+    ensures { IfOk result (λ n. n ≤ length out.old) }
 {
     let binding = records::binding_in(link);
     let at = bytes(out, at, b"link");
@@ -67,54 +74,54 @@ fn link(out: &mut [u8], at: usize, place: usize, link: Link) -> usize
     let at = field(out, at, binding.provider as u64);
     let at = flag(out, at, link.live);
     let at = field(out, at, link.generation);
-    end(out, at)
+    end(rt, out, at)
 }
 
-fn counts(out: &mut [u8], at: usize, kernel: Kernel) -> usize
-    ensures { result ≤ length out.old }
+fn counts(rt: &impl Print, out: &mut [u8], at: usize, kernel: Kernel) -> io::Result<usize>
+    ensures { IfOk result (λ n. n ≤ length out.old) }
 {
     let at = bytes(out, at, b"counts");
     let at = field(out, at, kernel.node_count as u64);
     let at = field(out, at, kernel.declaration_count as u64);
     let at = field(out, at, kernel.link_count as u64);
-    end(out, at)
+    end(rt, out, at)
 }
 
 // The record at this place of the three tables one after another, if it is below its table's count.
-fn record(out: &mut [u8], at: usize, kernel: Kernel, i: usize) -> usize
-    ensures { result ≤ length out.old }
+fn record(rt: &impl Print, out: &mut [u8], at: usize, kernel: Kernel, i: usize) -> io::Result<usize>
+    ensures { IfOk result (λ n. n ≤ length out.old) }
 {
     if i < IDENTITIES {
         if i < kernel.node_count {
-            return node(out, at, i, kernel.nodes[i]);
+            return node(rt, out, at, i, kernel.nodes[i]);
         }
-        return loops::at_most(at, out.len());
+        return Ok(loops::at_most(at, out.len()));
     }
     let i = i - IDENTITIES;
     if i < DECLARATIONS {
         if i < kernel.declaration_count {
-            return declaration(out, at, i, kernel.declarations[i]);
+            return declaration(rt, out, at, i, kernel.declarations[i]);
         }
-        return loops::at_most(at, out.len());
+        return Ok(loops::at_most(at, out.len()));
     }
     let i = i - DECLARATIONS;
     if i < LINKS {
         if i < kernel.link_count {
-            return link(out, at, i, kernel.links[i]);
+            return link(rt, out, at, i, kernel.links[i]);
         }
     }
-    loops::at_most(at, out.len())
+    Ok(loops::at_most(at, out.len()))
 }
 
 // The counts, then the records below them: nodes, declarations, links.
-pub fn tables(out: &mut [u8], at: usize, kernel: Kernel) -> usize
-    ensures { result ≤ length out.old }
+pub fn tables(rt: &impl Print, out: &mut [u8], at: usize, kernel: Kernel) -> io::Result<usize>
+    ensures { IfOk result (λ n. n ≤ length out.old) }
 {
-    let mut at = counts(out, at, kernel);
+    let mut at = counts(rt, out, at, kernel)?;
     let mut i = 0;
     while i < IDENTITIES + DECLARATIONS + LINKS {
-        at = record(out, at, kernel, i);
+        at = record(rt, out, at, kernel, i)?;
         i += 1;
     }
-    at
+    Ok(at)
 }

@@ -7,7 +7,7 @@ const MOST: u64 = 18446744073709551615;
 
 // first to seventh: the operands that are there, then 0; a phase is its place among the four. none: an operand is `-`.
 // known: the name is of the row, its operands are as many as they should be, each a number, a phase or `-`.
-#[derive(Drop)]
+#[derive(Clone, Copy)]
 pub struct Line {
     pub name: usize,
     pub first: u64,
@@ -22,7 +22,7 @@ pub struct Line {
 }
 
 // One word as an operand.
-#[derive(Drop)]
+#[derive(Clone, Copy)]
 pub struct Operand {
     pub value: u64,
     pub none: bool,

@@ -1,7 +1,10 @@
 // Why a command of a log was refused: plays the log up to it, and writes the refusal, the test that gave it and what the test found, or that it was accepted.
+#![tactic(auto)]
+
 use player::{play, start};
 use reasons::{LogExplanation, why_next};
-use text::logs::{last_answer, line, read_log, tell, warn};
+use std::io;
+use text::logs::{argument, argument_count, last_answer, line, read_log, tell, warn};
 use text::made::identity_of;
 use text::words::number;
 use text::{bytes, explanations};
@@ -20,25 +23,26 @@ fn explained(out: &mut [u8], why: LogExplanation) -> usize {
 }
 
 // Says of a log that it has no command of this number.
-fn no_command(name: &[u8], word: &[u8]) {
-    let mut said = io::large_buffer();
+fn no_command(rt: &HostRuntime, name: &[u8], word: &[u8]) -> io::Result<()> {
+    let mut said = [0u8; 65536];
     let at = bytes(&mut said, 0, b"why: ");
     let at = bytes(&mut said, at, name);
     let at = bytes(&mut said, at, b" has no command ");
     let at = bytes(&mut said, at, word);
     let at = bytes(&mut said, at, b"\n");
-    warn(&said, at);
+    warn(rt.stderr(), &said, at)?;
+    Ok(())
 }
 
-fn answered(name: &[u8], word: &[u8], why: LogExplanation) {
-    let mut out = io::large_buffer();
+fn answered(rt: &HostRuntime, name: &[u8], word: &[u8], why: LogExplanation) -> io::Result<()> {
+    let mut out = [0u8; 65536];
     let at = explained(&mut out, why);
     if at == 0 {
-        no_command(name, word);
-        return;
+        return no_command(rt, name, word);
     }
-    let at = text::end(&mut out, at);
-    text::flush(&out, at);
+    let at = text::end(rt, &mut out, at)?;
+    text::flush(rt, &out, at)?;
+    Ok(())
 }
 
 // Why of the command behind as many as the answers have room for; an 11 or a 12 is a log's last.
@@ -55,7 +59,7 @@ fn behind(log: &[u8], answers: &mut [u8]) -> LogExplanation {
 
 // Why of the command with this number, counted from 0.
 fn asked(log: &[u8], command: usize) -> LogExplanation {
-    let mut answers = io::large_buffer();
+    let mut answers = [0u8; 65536];
     if answers.len() < command {
         return LogExplanation::NoCommand;
     }
@@ -63,55 +67,58 @@ fn asked(log: &[u8], command: usize) -> LogExplanation {
 }
 
 // The first 65,536 bytes of a file, as far as they can be read, played up to the command; of a file that cannot be opened nothing is.
-fn ask_file(name: &[u8], word: &[u8], command: usize) {
-    let mut log = io::large_buffer();
-    let read = read_log(name, &mut log);
+fn ask_file(rt: &HostRuntime, name: &[u8], word: &[u8], command: usize) -> io::Result<()> {
+    let mut log = [0u8; 65536];
+    let read = read_log(rt, name, &mut log);
     let n = read.count;
     let why = asked(&log[0..n], command);
     tell(
+        rt.stderr(),
         b"why",
         name,
         read,
         0,
         b" is answered as far as it was read",
         b" was not played, and nothing is explained",
-    );
+    )?;
     if read.opened {
-        answered(name, word, why);
+        answered(rt, name, word, why)?;
     }
+    Ok(())
 }
 
-fn no_number(word: &[u8]) {
-    let mut said = io::large_buffer();
+fn no_number(rt: &HostRuntime, word: &[u8]) -> io::Result<()> {
+    let mut said = [0u8; 65536];
     let at = line(&mut said, 0, b"why", word, b" is no number");
-    warn(&said, at);
+    warn(rt.stderr(), &said, at)?;
+    Ok(())
 }
 
 // A log and a command's number; nothing is played if that is no number.
-fn ask(name: &[u8], word: &[u8]) {
+fn ask(rt: &HostRuntime, name: &[u8], word: &[u8]) -> io::Result<()> {
     let command = number(word);
     if !command.known {
-        no_number(word);
-        return;
+        return no_number(rt, word);
     }
-    ask_file(name, word, identity_of(command.value));
+    ask_file(rt, name, word, identity_of(command.value))
 }
 
 // Argument i is the log, the next one the command's number, empty if there is none.
-fn ask_arguments(i: usize) {
-    let mut name = io::buffer();
-    let n = os::arg(i, &mut name);
-    let mut word = io::large_buffer();
-    let m = os::arg(std::num::wrapping_add_usize(i, 1), &mut word);
-    ask(&name[..n], &word[..m]);
+fn ask_arguments(rt: &HostRuntime, i: usize) -> io::Result<()> {
+    let mut name = [0u8; 4096];
+    let n = argument(rt, i, &mut name);
+    let mut word = [0u8; 65536];
+    let m = argument(rt, std::num::wrapping_add_usize(i, 1), &mut word);
+    ask(rt, &name[..n], &word[..m])
 }
 
 // The arguments by pairs, a log and a command's number, counted from 0.
-fn main() {
-    let pairs = os::arg_count() / 2;
+fn main(rt: HostRuntime) -> io::Result<()> {
+    let pairs = argument_count(&rt) / 2;
     let mut i = 0;
     while i < pairs {
-        ask_arguments(2 * i + 1);
+        ask_arguments(&rt, 2 * i + 1)?;
         i += 1;
     }
+    Ok(())
 }

@@ -1,5 +1,5 @@
 -- The order of cleaning: how a search that goes on where it is, or back to what became free, finds the lowest each time.
-use Rattle.model.proofs.Logic.{Bool, List, [], ◌&&◌, ◌++◌, ◌+◌, ◌-◌, ◌<◌, ◌∙◌, ◌∷◌, ◌||◌, ◌≡◌, ◌≤◌, ◌⊎◌, ap, arith, cond, eqb, eqb-true, false, get_or, get_or-set_other, get_or-set_same, inl, inr, length, length-set, ne_eqb, none, not, refl, replicate, set, some, suc, sym, true, zero, ℕ, ℕ_discrete}
+use Rattle.model.proofs.Logic.{Bool, List, [], ◌&&◌, ◌++◌, ◌+◌, ◌<◌, ◌∙◌, ◌∷◌, ◌||◌, ◌≡◌, ◌≤◌, ◌⊎◌, ap, arith, cond, eqb, eqb-true, false, get_or, get_or-set_other, get_or-set_same, inl, inr, length, length-set, ne_eqb, none, not, refl, replicate, set, some, suc, sym, true, zero, ℕ, ℕ_discrete}
 use Rattle.model.specs.{Lists.any, Lists.keep, declared.records.Link.Link}
 use Rattle.model.proofs.{Laws.Booleans.and_i, Laws.Booleans.and_l, Laws.Booleans.and_r, Laws.Booleans.cases, Laws.Booleans.clash, Laws.Lists.keep-less, Laws.Lists.length-keep, Laws.Lowest.lowest-is, Laws.Lowest.lowest-nothing}
 use Rattle.loops.proofs.{Laws.Collecting.Collecting, Laws.Collecting.append-take, Laws.Collecting.collect_start, Laws.Collecting.collect-take}

@@ -1,6 +1,6 @@
 -- What the types of a kernel's arrays say of their lengths, as the logic has it of every kernel that a method receives.
 use Prim.Native.Nat.{◌^◌}
-use Rattle.model.proofs.Logic.{GoodsP, ◌<◌, ◌≡◌, length, length-map}
+use Rattle.model.proofs.Logic.{GoodsP, ◌<◌, ◌≡◌, length}
 use Rattle.model.specs.{Layouts.Sized, Sizes.list_limit, declared.PortList.PortList}
 use Rattle.kernel.specs.{Fields.layout_of, declared.Kernel.Kernel}
 use Rattle.kernel.proofs.Kernel.sound.Kinds as kinds
@@ -9,9 +9,9 @@ use Rattle.sizes.specs.{Sizes.sizes}
 
 pub sized : (k : Kernel) → GoodsP tt kinds.ps (k, tt) → Sized sizes (layout_of k)
 sized k g = record {
-  nodes = simp length-map at g.0.1.1.0.1.0.1;
-  declarations = simp length-map at g.0.1.1.1.1.0.1.0.1;
-  links = simp length-map at g.0.1.1.1.1.1.1.0.1.0.1;
+  nodes = g.0.1.1.0.1.0.1;
+  declarations = g.0.1.1.1.1.0.1.0.1;
+  links = g.0.1.1.1.1.1.1.0.1.0.1;
 }
 
 -- of the declarations' count, and of a port list's array
@@ -19,4 +19,4 @@ pub declaration_count_fits : (k : Kernel) → GoodsP tt kinds.ps (k, tt) → k.d
 declaration_count_fits k g = g.0.1.1.1.1.1.0.1
 
 pub list_sized : (l : PortList) → GoodsP tt ports.ps (l, tt) → length l.ports ≡ list_limit
-list_sized l g = simp length-map at g.0.1.1.0.1.0.1
+list_sized l g = g.0.1.1.0.1.0.1

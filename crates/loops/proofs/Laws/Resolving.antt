@@ -1,5 +1,5 @@
 -- A scan that resolves a port, and one that binds a component's ports: what is left of the rows answers as all the rows do.
-use Rattle.model.proofs.Logic.{Bool, List, [], ◌++◌, ◌+◌, ◌<◌, ◌∷◌, ◌≡◌, ◌≤◌, ap, append-nil, append_snoc, arith, false, refl, slice, sym, take, true, ℕ}
+use Rattle.model.proofs.Logic.{Bool, List, [], ◌++◌, ◌+◌, ◌<◌, ◌∷◌, ◌≡◌, ◌≤◌, ap, append-nil, append_snoc, false, refl, slice, sym, take, true, ℕ}
 use Rattle.model.specs.{Lists.keep, Records.binding_of, Records.owner_in, Resolution.Target, Resolution.bind_ports, Resolution.dependency_ports, Resolution.is_dependency_of, Resolution.joined, Resolution.look_up, Resolution.offers, Resolution.owned, declared.Binding.Binding, declared.Port.Port, declared.Resolution.Resolution, declared.records.Declaration.Declaration}
 use Rattle.loops.proofs.{Laws.Columns.rows_most, Laws.Columns.rows_next, Laws.Scan.part_done}
 use Rattle.loops.specs.{Columns.rows_from, Limits.AtMost}

@@ -61,6 +61,7 @@ ascending_keep p i (x ∷ xs) h = go (p x) (ascending_keep p (suc x) xs h.1)
     go false k = ascending_lower i (suc x) (keep p xs) (omega (arith, h.0)) k
 
 pub ascending_above : (i : ℕ) (xs : List ℕ) (x : ℕ) → Ascending i xs → List-as-Memᴰ x xs → i ≤ x
+ascending_above i [] x h m = elim m [ ]
 ascending_above i (y ∷ ys) x h (List·Memᴰ·head e) = omega (arith, h.0)
 ascending_above i (y ∷ ys) x h (List·Memᴰ·tail m) = omega (arith, h.0, ascending_above (suc y) ys x h.1 m)
 

@@ -1,5 +1,5 @@
 -- Soundness as facts by membership, and that the test says just these.
-use Rattle.model.proofs.Logic.{Bool, Bool·beq, List, List-as-Memᴰ, List·getD-eq-default, Memᴰ·cast, ◌&&◌, ◌<◌, ◌≡◌, ◌≤◌, ◌⊎◌, arith, dec_lt, eq-eqb, eqb, eqb-true, false, get_or, inl, inr, le-leb, leb-true, length, lt-ltb, ltb-true, not, refl, sym, true, zero-add, ℕ}
+use Rattle.model.proofs.Logic.{Bool, Bool·beq, List, List-as-Memᴰ, List·getD-eq-default, Memᴰ·cast, ◌&&◌, ◌<◌, ◌≡◌, ◌≤◌, ◌⊎◌, arith, dec_lt, eq-eqb, eqb, eqb-true, false, get_or, inl, inr, le-leb, leb-true, length, lt-ltb, ltb-true, not, refl, sym, true, zero-add, ℕ, subst}
 use Rattle.model.specs.{Lists.all, Lists.all_at, Lists.any, Lists.conj, Records.binding_in, Records.blank_node, Records.consistency_tests, Records.consumer_in, Records.declaration_of, Records.declared_port, Records.dependency, Records.is_consistent, Records.is_inactive, Records.is_unloading, Records.owner_in, Records.parent_in, Records.port_in, Records.port_of, Records.provider_in, Records.provision, Records.same_port, Sizes.Sizes, Soundness.absent_ok, Soundness.coverage, Soundness.dead_ok, Soundness.declares, Soundness.end_tests, Soundness.episode_ok, Soundness.every_point, Soundness.fits, Soundness.has_owner, Soundness.is_covered, Soundness.is_declaration, Soundness.link_ok, Soundness.link_tests, Soundness.links_to, Soundness.need_tests, Soundness.node_ok, Soundness.ordered, Soundness.parent_ok, Soundness.rival_tests, Soundness.safety_tests, Soundness.safety_wf, Soundness.same_owner, Soundness.size_tests, Soundness.smaller, Soundness.sound, Soundness.stored_tests, Soundness.stored_wf, Soundness.wf, Tables.Tables, Tables.generation_at, Tables.installed, Tables.node_at, Tables.not_inactive, Tables.present, Tables.serving, declared.Binding.Binding, declared.Port.Port, declared.records.Declaration.Declaration, declared.records.Link.Link, declared.records.Node.Node}
 use Rattle.model.proofs.{Laws.Booleans.Each, Laws.Booleans.and_i, Laws.Booleans.and_l, Laws.Booleans.and_r, Laws.Booleans.cases, Laws.Booleans.clash, Laws.Booleans.each, Laws.Booleans.f_not, Laws.Booleans.imp_e, Laws.Booleans.imp_i, Laws.Booleans.not_t, Laws.Booleans.of_each, Laws.Lists.all_in, Laws.Lists.all_at-at, Laws.Lists.any-in, Laws.Lists.at-all_at, Laws.Lists.in_all, Laws.Lists.in_any, Laws.Records.declaration_is, Laws.Records.port-is}
 
@@ -186,7 +186,7 @@ links-to o p l q =
 
 pub of_links_to : (o : ℕ) (p : Port) (l : Link) → l.live ≡ true → consumer_in l ≡ o → port_in l ≡ p → links_to o p l ≡ true
 unfolding links_to
-of_links_to o p l v c e = rw (v, c, e, eq-eqb o o refl, port-same p)
+of_links_to o p l v c e = and_i _ _ (and_i l.live (eqb (consumer_in l) o) v (eq-eqb _ _ c)) (subst (λ (q : Port). same_port (port_in l) q ≡ true) e (port-same (port_in l)))
 
 pub linked_of : (ls : List Link) (o : ℕ) (p : Port) → any (links_to o p) ls ≡ true → Linked ls o p
 linked_of ls o p h = let (l, m, q) = any-in (links_to o p) ls h in let (v, c, e) = links-to o p l q in record { link = l; among = m; is_live = v; of_consumer = c; of_port = e }

@@ -6,7 +6,7 @@ use Rattle.model.specs.{Lists.all, Lists.all_at, Lists.any, Lists.find, Lists.is
 -- ---- membership
 
 module _ {A : Type 0} where
-  pub all_in : (p : A → Bool) {xs : List A} {x : A} → List-as-Memᴰ x xs → all p xs ≡ true → p x ≡ true
+  pub all_in : (p : A → Bool) {x : A} {xs : List A} → List-as-Memᴰ x xs → all p xs ≡ true → p x ≡ true
   unfolding all
   all_in p (List·Memᴰ·head {x = y} {xs = ys} e) h = rw e (and_l (p y) (all p ys) h)
   all_in p (List·Memᴰ·tail {x = y} {xs = ys} m) h = all_in p m (and_r (p y) (all p ys) h)
@@ -25,7 +25,7 @@ module _ {A : Type 0} where
       go true e f = (x, List·Memᴰ·head refl, e)
       go false e f = let (y, m, q) = f (rw e at h) in (y, List·Memᴰ·tail m, q)
 
-  pub in_any : (p : A → Bool) {xs : List A} {x : A} → List-as-Memᴰ x xs → p x ≡ true → any p xs ≡ true
+  pub in_any : (p : A → Bool) {x : A} {xs : List A} → List-as-Memᴰ x xs → p x ≡ true → any p xs ≡ true
   unfolding any
   in_any p (List·Memᴰ·head {x = y} {xs = ys} e) h = rw (← e, h)
   in_any p (List·Memᴰ·tail {x = y} {xs = ys} m) h = rw (in_any p m h) (or_t (p y))
@@ -34,7 +34,7 @@ module _ {A : Type 0} where
       or_t true = refl
       or_t false = refl
 
-  pub none_in : (p : A → Bool) {xs : List A} {x : A} → List-as-Memᴰ x xs → any p xs ≡ false → p x ≡ false
+  pub none_in : (p : A → Bool) {x : A} {xs : List A} → List-as-Memᴰ x xs → any p xs ≡ false → p x ≡ false
   unfolding any
   none_in p (List·Memᴰ·head {x = y} {xs = ys} e) h = rw e (or_f_l (p y) (any p ys) h)
   none_in p (List·Memᴰ·tail {x = y} {xs = ys} m) h = none_in p m (or_f_r (p y) (any p ys) h)
@@ -49,7 +49,7 @@ module _ {A : Type 0} where
       go true q f (List·Memᴰ·tail n) = let (k, r) = f n in (List·Memᴰ·tail k, r)
       go false q f n = let (k, r) = f n in (List·Memᴰ·tail k, r)
 
-  pub keep-in : (p : A → Bool) {xs : List A} {x : A} → List-as-Memᴰ x xs → p x ≡ true → List-as-Memᴰ x (keep p xs)
+  pub keep-in : (p : A → Bool) {x : A} {xs : List A} → List-as-Memᴰ x xs → p x ≡ true → List-as-Memᴰ x (keep p xs)
   unfolding keep
   keep-in p {x = z} (List·Memᴰ·head {x = y} {xs = ys} e) h = rw (← e, h) (List·Memᴰ·head refl)
   keep-in p {x = z} (List·Memᴰ·tail {x = y} {xs = ys} m) h = go (p y) (keep-in p m h)
@@ -68,7 +68,7 @@ module _ {A : Type 0} where
       go false h = omega arith
 
   -- one that does not pass is not kept
-  pub keep-drops : (p : A → Bool) {xs : List A} {x : A} → List-as-Memᴰ x xs → p x ≡ false → length (keep p xs) < length xs
+  pub keep-drops : (p : A → Bool) {x : A} {xs : List A} → List-as-Memᴰ x xs → p x ≡ false → length (keep p xs) < length xs
   unfolding keep
   keep-drops p (List·Memᴰ·head {x = y} {xs = ys} e) h = rw (← e, h) (omega (arith, length-keep p ys))
   keep-drops p (List·Memᴰ·tail {x = y} {xs = ys} m) h = go (p y) (keep-drops p m h)
@@ -140,10 +140,11 @@ module _ {A B : Type 0} (f : A → B) (p : B → Bool) where
       go false ih = ih
 
 pub in_map : {A B : Type 0} (f : A → B) (xs : List A) {y : B} → List-as-Memᴰ y (map f xs) → (x : A) × List-as-Memᴰ x xs × (y ≡ f x)
+in_map {A = A} {B = B} f [] {y = y} m = elim m [ ]
 in_map f (x ∷ xs) (List·Memᴰ·head e) = (x, List·Memᴰ·head refl, e)
 in_map f (x ∷ xs) (List·Memᴰ·tail m) = let (z, n, e) = in_map f xs m in (z, List·Memᴰ·tail n, e)
 
-pub map-in : {A B : Type 0} (f : A → B) {xs : List A} {x : A} → List-as-Memᴰ x xs → List-as-Memᴰ (f x) (map f xs)
+pub map-in : {A B : Type 0} (f : A → B) {x : A} {xs : List A} → List-as-Memᴰ x xs → List-as-Memᴰ (f x) (map f xs)
 map-in f (List·Memᴰ·head e) = List·Memᴰ·head (ap f e)
 map-in f (List·Memᴰ·tail m) = List·Memᴰ·tail (map-in f m)
 
@@ -167,7 +168,7 @@ module _ {A : Type 0} (f : ℕ → A → Bool) where
 
 -- an entry has a place, and what stands at a place is an entry
 module _ {A : Type 0} where
-  pub in_at : {xs : List A} {x : A} → List-as-Memᴰ x xs → Among xs x
+  pub in_at : {x : A} {xs : List A} → List-as-Memᴰ x xs → Among xs x
   in_at (List·Memᴰ·head {x = y} {xs = ys} e) = (0, (omega arith, sym e))
   in_at (List·Memᴰ·tail {x = y} {xs = ys} m) = let (i, a) = in_at m in (suc i, (omega (arith, a.0), a.1))
 

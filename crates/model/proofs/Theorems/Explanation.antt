@@ -1,6 +1,6 @@
 -- The explanation of every command: it names the refusal that the command replies, the first test that applies, and a real witness.
 use Rattle.model.proofs.Logic.{Bool, List, Option, [], ◌&&◌, ◌||◌, ◌↔◌, ◌∙◌, ◌∷◌, ◌≡◌, ◌⊎◌, ap, arith, cond, eq-eqb, eqb, eqb-true, false, inl, inr, leb-true, ltb-false, ltb-true, map, none, not, refl, some, subst, suc, sym, true, ℕ, ⊎_elim}
-use Rattle.model.specs.{Commands.Command, Commands.tests, Explanation.Behind, Explanation.ChecksExplained, Explanation.ChildOf, Explanation.EveryRefusalExplained, Explanation.First, Explanation.InTheWay, Explanation.IsComponent, Explanation.NoneTaken, Explanation.Real, Explanation.RetiredNamed, Explanation.RowsTold, Explanation.Subject, Explanation.Suits, Explanation.UnchangedNamed, Explanation.Unmet, Explanation.child_named, Explanation.clash_from, Explanation.clash_named, Explanation.clash_of, Explanation.damaged, Explanation.explain, Explanation.explained, Explanation.explained_on, Explanation.is_witness, Explanation.lacking, Explanation.link_named, Explanation.long_list, Explanation.or_next, Explanation.parent_named, Explanation.repeat_named, Explanation.reply_by, Explanation.row, Explanation.subject, Insertion.check_insert, Insertion.parent_present, Insertion.parent_retired, Interface.distinct, Interface.listed, Interface.own, Interface.relies_on, Interface.taken, Interface.too_long, Kernels.Commanded, Kernels.asked, Kernels.commanded, Layouts.Layout, Layouts.sound_kernel, Layouts.tables_of, Lifecycle.check_iteration, Lifecycle.relies, Lists.any, Lists.find_at, Lists.is_none, Records.binding_of, Records.has_parent, Records.is_child_of, Records.parent_in, Records.port_in, Records.port_of, Records.provider_in, Refusals.Reply, Refusals.accepted, Refusals.first, Refusals.or_else, Resolution.Owns, Resolution.Says, Resolution.Target, Resolution.resolve, Resolution.target, Resolution.target_list, Sizes.Sizes, Soundness.sound, Tables.Tables, Tables.node_at, Tables.present, declared.Binding.Binding, declared.Error.Error, declared.Parent.Parent, declared.Port.Port, declared.PortList.PortList, declared.Resolution.Resolution, declared.Unresolved.Unresolved, declared.explanation.Explanation.Explanation, declared.explanation.ListKind.ListKind, declared.explanation.Refusal.Refusal, declared.explanation.Witness.Witness, declared.records.Link.Link, declared.records.Node.Node}
+use Rattle.model.specs.{Commands.Command, Commands.tests, Explanation.Behind, Explanation.ChecksExplained, Explanation.ChildOf, Explanation.EveryRefusalExplained, Explanation.First, Explanation.InTheWay, Explanation.IsComponent, Explanation.NoneTaken, Explanation.Real, Explanation.RetiredNamed, Explanation.RowsTold, Explanation.Subject, Explanation.Suits, Explanation.UnchangedNamed, Explanation.Unmet, Explanation.child_named, Explanation.clash_from, Explanation.clash_named, Explanation.clash_of, Explanation.damaged, Explanation.explain, Explanation.explained, Explanation.explained_on, Explanation.is_witness, Explanation.lacking, Explanation.link_named, Explanation.long_list, Explanation.or_next, Explanation.parent_named, Explanation.repeat_named, Explanation.reply_by, Explanation.row, Explanation.subject, Insertion.check_insert, Insertion.parent_present, Insertion.parent_retired, Interface.distinct, Interface.listed, Interface.own, Interface.relies_on, Interface.taken, Interface.too_long, Kernels.Commanded, Kernels.asked, Kernels.commanded, Layouts.Layout, Layouts.sound_kernel, Layouts.tables_of, Lifecycle.check_iteration, Lifecycle.relies, Lists.any, Lists.find_at, Lists.is_none, Records.binding_of, Records.has_parent, Records.is_child_of, Records.parent_in, Records.port_in, Records.port_of, Records.provider_in, Refusals.Reply, Refusals.accepted, Refusals.first, Refusals.or_else, Resolution.Owns, Resolution.Says, Resolution.Target, Resolution.resolve, Resolution.target, Resolution.target_list, Sizes.Sizes, Soundness.sound, Tables.Tables, Tables.node_at, Tables.present, declared.Binding.Binding, declared.Error.Error, declared.Parent.Parent, declared.Port.Port, declared.PortList.PortList, declared.Resolution.Resolution, declared.Unresolved.Unresolved, declared.explanation.Explanation.Explanation, declared.explanation.ListKind.ListKind, declared.explanation.Refusal.Refusal, declared.explanation.Witness.Witness, declared.records.Link.Link, declared.records.Node.Node, Records.same_port}
 use Rattle.model.proofs.{Laws.Booleans.and_i, Laws.Booleans.and_l, Laws.Booleans.and_r, Laws.Booleans.cases, Laws.Booleans.clash, Laws.Booleans.not_f, Laws.Booleans.or_f_l, Laws.Booleans.or_f_r, Laws.Clashes.Free, Laws.Clashes.Scanned, Laws.Clashes.first-as, Laws.Clashes.first_head, Laws.Clashes.first_tail, Laws.Clashes.found_first, Laws.Clashes.scan_stops, Laws.Explanation.clash_found, Laws.Explanation.offer_found, Laws.Explanation.repeat_found, Laws.Facts.port-same, Laws.Facts.same_port_lem, Laws.Lists.never, Laws.Refusals.passed, Laws.Refusals.report-accepts, Laws.Resolution.target_none, Theorems.Impact.Hit.is-none, Theorems.Kernels.asked-sound, Theorems.Kernels.asked-unsound, Theorems.Kernels.commanded-accepted, Theorems.Kernels.commanded-refused, Theorems.Kernels.commanded-unsound, Theorems.Layouts.tables-sound, Theorems.Resolution.Names, Theorems.Resolution.named-is, Theorems.Resolution.names_when, Theorems.Resolution.resolve-exactly, Theorems.Resolution.resolve-says, Theorems.Resolution.target-names}
 
 -- the rows explained are the rows of the commands
@@ -208,7 +208,7 @@ module _ (S : Sizes) (T : Tables) where
           (and_l l.live _ y, ap some (sym (eqb-true _ _ (and_r l.live _ y))), λ q e. cc)
 
       from : (l : Link) → InTheWay (subject (Command.release_provision id p)) l → relies_on id p l ≡ true
-      from l (x, y, z) = let e : provider_in l ≡ id = cc in and_i (l.live && eqb (provider_in l) id) _ (and_i l.live _ x (eq-eqb _ _ e)) (rw (z p refl) (port-same p))
+      from l (x, y, z) = let e : provider_in l ≡ id = cc in and_i (l.live && eqb (provider_in l) id) _ (and_i l.live _ x (eq-eqb _ _ e)) (subst (λ (q : Port). same_port (port_in l) q ≡ true) (z p refl) (port-same (port_in l)))
 
   relied_backs : (id : ℕ) → any (relies id) T.links ≡ true → BacksIn (Command.begin_cleanup id) Error.Relied (link_named (relies id) T.links)
   unfolding relies

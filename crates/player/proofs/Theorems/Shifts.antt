@@ -156,7 +156,7 @@ turns-within : (s : State) (k count : ℕ) (bytes : List ℕ) → Within count (
 unfolding turns_from lines_from
 turns-within s k count [] = (omega arith, λ h. omega arith)
 turns-within s (suc k) count (byte ∷ bytes) = let (l, f) = turns-within s k count bytes in (omega arith, λ h. omega (arith, f (omega arith)))
-turns-within s zero count (byte ∷ bytes) = turn-within (turn s byte bytes) count (operand_length byte) byte bytes (most-twelve s _ (item s byte bytes)) (turns-within _ (operand_length byte) (suc count) bytes)
+turns-within s zero count (byte ∷ bytes) = turn-within (turn s byte bytes) count (operand_length byte) byte bytes (most-twelve s _ (item s byte bytes)) (turns-within (turn s byte bytes).after (operand_length byte) (suc count) bytes)
 
 pub every_line : EveryLine
 every_line log =

@@ -1,11 +1,6 @@
 -- The port list that a loop fills from a slice: nothing of it at first, one more port a turn, and at last the slice's port list.
-use mathlib.Core.Path.{◌∙◌, ◌≡◌, ap, sym}
-use mathlib.Core.List.{List, ◌++◌, append-nil}
-use Prim.Native.Nat.{◌-◌, ◌<◌, suc, ℕ}
-use native.Mathlib.Omega.{arith}
-use native.Mathlib.Decide.{dec_lt}
-use lib.ListN.{get_or, length, replicate, take}
-use lib.Seq.{length-take-le, take_all, take-append-le, take-suc}
+use Rattle.model.proofs.Logic.{List, ◌++◌, ◌-◌, ◌<◌, ◌∙◌, ◌≡◌, ap, append-nil, arith, dec_lt, get_or, length, length-take-le, replicate, suc, sym, take, take_all, take-suc, ℕ}
+use Rattle.std.proofs.lemmas.List.{take-append-le}
 use Rattle.model.proofs.Laws.Arrays.{length-padded, snoc_padded}
 use Rattle.model.specs.declared.Port.{Port}
 use Rattle.model.specs.declared.PortList.{PortList}

@@ -1,11 +1,9 @@
--- Text in a buffer: nothing, a byte, one text behind another, a full buffer; and a number's digits: how many there are, and that they are io's.
-use Rattle.std.proofs.Common.{◌/◌, ◌%◌, ◌^◌, min, mod-eq_of_lt}
-use Rattle.io.specs.Digits.{IsDigitCount, last_digits}
+-- Text in a buffer: nothing, a byte, one text behind another, a full buffer; and a number's digits: how many there are, and how they are put from the last on.
+use Rattle.std.proofs.Common.{◌/◌, ◌%◌, ◌^◌, min}
 use Rattle.loops.specs.Limits.{AtMost}
-use Rattle.model.proofs.Logic.{List, [], ◌++◌, ◌+◌, ◌-◌, ◌<◌, ◌∙◌, ◌∷◌, ◌≡◌, ◌≤◌, ap, append-nil, arith, dec_lt, drop_of_length-le, le-ltb, length, length-append, length-drop, length-take, lt-ltb, refl, set, suc, sym, take_all, take-append-drop, zero, ℕ}
+use Rattle.model.proofs.Logic.{List, [], ◌++◌, ◌+◌, ◌-◌, ◌<◌, ◌∙◌, ◌∷◌, ◌≡◌, ◌≤◌, add-one, ap, append_assoc, append-nil, arith, dec_lt, drop, drop_of_length-le, get_or, le-ltb, length, length-append, length-drop, length-set, length-take, lt-ltb, refl, set, suc, sym, take, take_all, take-append-drop, take-suc, zero, ℕ}
 use Rattle.text.specs.Written.{Puts, decimal, digit_byte, digits_of, written_at}
 use lib.Seq.{drop-nil, take-nil}
-use native.Mathlib.Nat.{one-le-pow, pow-le-pow_right}
 
 -- a count that stops at a size, as a minimum
 pub most-min : {count size r : ℕ} → AtMost count size r → r ≡ min count size
@@ -53,6 +51,26 @@ pub puts_then :
 puts_then xs ys out at (p, a) (q, b) =
     (q ∙ rw (p, a) (written_then at xs ys out), omega (arith, length-append xs ys, ap length p ∙ length-written_at at xs out))
 
+-- the first i bytes are put
+pub record Copied (bytes out₀ : List ℕ) (at : ℕ) (out : List ℕ) (at' i : ℕ) : Type 0 where
+  pub same : length out ≡ length out₀
+  pub within : at' ≤ length out
+  pub puts : Puts (take i bytes) out₀ at out at'
+
+module _ {bytes out₀ : List ℕ} {at : ℕ} {out : List ℕ} {at' i : ℕ} (s : Copied bytes out₀ at out at' i) where
+  pub copied_next : i < length bytes → at' < length out → Copied bytes out₀ at (set out at' (get_or bytes i 0)) (at' + 1) (i + 1)
+  copied_next l m =
+      let p = puts_then _ _ _ _ s.puts (puts_byte (get_or bytes i 0) out at' m) in
+      record { same = rw length-set s.same; within = rw length-set (omega arith); puts = rw (add-one i, take-suc bytes i 0 l) p }
+
+  pub copied_all : length bytes ≤ i → Puts bytes out₀ at out at'
+  copied_all l = rw (take_all i bytes l) at s.puts
+
+  pub copied_full : length out ≤ at' → Puts bytes out₀ at out at'
+  copied_full l =
+      let e : at' ≡ length out = omega (arith, s.within) in
+      rw (take-append-drop i bytes) at (puts_then _ _ _ _ s.puts (puts_full (drop i bytes) out at' l e))
+
 -- ---- a number's digits
 
 -- a number below ten is its digit; another's last digit stands behind the others
@@ -89,37 +107,29 @@ decimal-some n = go (dec_lt n 10)
     go (yes d) = rw (digits_one 19 n d) (omega arith)
     go (no d) = rw (digits_more 19 n (omega arith), length-append) (omega arith)
 
--- ---- io's digits
+-- ---- digits put from the last on
 
--- the fewest are no fewer than the number needs
-fewest_low : (n k : ℕ) → IsDigitCount 10 1 n (suc (suc k)) → 10 ^ suc k ≤ n
-fewest_low n k f = let e : suc (suc k) - 1 ≡ suc k = omega arith in rw e at (f.2 (omega arith))
+suc_less : (k : ℕ) → suc k - 1 ≡ k
+suc_less k = omega arith
 
--- a number of one digit, and one of more without its last
-fewest_one : (n k : ℕ) → n < 10 → IsDigitCount 10 1 n (suc k) → k ≡ 0
-fewest_one n zero l f = refl
-fewest_one n (suc k) l f = absurd (omega (arith, fewest_low n k f, one-le-pow k 10 (omega arith)))
+drop_put : (at b : ℕ) (xs : List ℕ) → at < length xs → drop at (set xs at b) ≡ b ∷ drop (suc at) xs
+drop_put at b [] l = absurd (omega arith)
+drop_put zero b (x ∷ xs) l = refl
+drop_put (suc at) b (x ∷ xs) l = drop_put at b xs (omega arith)
 
-fewest_less : (n k : ℕ) → 10 ≤ n → IsDigitCount 10 1 n (suc k) → IsDigitCount 10 1 (n / 10) k
-fewest_less n zero h f = absurd (omega (arith, f.1))
-fewest_less n (suc k) h f =
-    let e : suc k - 1 ≡ k = omega arith in
-    (omega arith, omega (arith, f.1), λ l. rw e (omega (arith, fewest_low n k f)))
+-- the last digit of a number that has more, before what is put already
+pub digits_step : (at n : ℕ) (xs : List ℕ) → 10 ≤ n → n < 10 ^ at → at ≤ length xs →
+    (0 < at - 1) × (n / 10 < 10 ^ (at - 1)) × (digits_of (at - 1) (n / 10) ++ drop (at - 1) (set xs (at - 1) (digit_byte (n % 10))) ≡ digits_of at n ++ drop at xs)
+digits_step zero n xs h l f = absurd (omega arith)
+digits_step (suc at) n xs h l f =
+    rw (suc_less at) (
+      more-than_one n at h l,
+      omega arith,
+      rw (drop_put at (digit_byte (n % 10)) xs (omega arith), digits_more at n h, append_assoc (digits_of at (n / 10))) refl,
+    )
 
--- however many there may be
-digits_of_lem : (most r n : ℕ) → r ≤ most → IsDigitCount 10 1 n r → last_digits 10 r n ≡ digits_of most n
-digits_of_lem zero r n l f = absurd (omega (arith, f.0))
-digits_of_lem (suc most) zero n l f = absurd (omega (arith, f.0))
-digits_of_lem (suc most) (suc k) n l f = go (dec_lt n 10) (digits_of_lem most k (n / 10) (omega arith))
-  where
-    go : Dec (n < 10) → (IsDigitCount 10 1 (n / 10) k → last_digits 10 k (n / 10) ≡ digits_of most (n / 10)) → last_digits 10 (suc k) n ≡ digits_of (suc most) n
-    go (yes d) h = rw (fewest_one n k d f, mod-eq_of_lt d, lt-ltb n 10 d, digits_one most n d)
-    go (no d) h = rw (h (fewest_less n k (omega arith) f), lt-ltb (n % 10) 10 (omega arith), digits_more most n (omega arith))
-
--- of any number of eight bytes
-pub digits_are : (n r : ℕ) → n < 10 ^ 20 → IsDigitCount 10 1 n r → last_digits 10 r n ≡ decimal n
-digits_are n r b f = digits_of_lem 20 r n (go (dec_lt 20 r)) f
-  where
-    go : Dec (20 < r) → r ≤ 20
-    go (yes l) = absurd (omega (arith, f.2 (omega arith), pow-le-pow_right {n = 10} (omega arith) {i = 20} {j = r - 1} (omega arith)))
-    go (no l) = omega arith
+-- the first digit
+pub digits_last : (at n : ℕ) (xs : List ℕ) → n < 10 → 0 < at → at ≤ length xs →
+    drop (at - 1) (set xs (at - 1) (digit_byte n)) ≡ digits_of at n ++ drop at xs
+digits_last zero n xs h l f = absurd (omega arith)
+digits_last (suc at) n xs h l f = rw (suc_less at, drop_put at (digit_byte n) xs (omega arith), digits_one at n h) refl

@@ -1,0 +1,18 @@
+use Rattle.model.proofs.Logic.{◌∙◌, ap, arith}
+use Rattle.loops.proofs.{Laws.Scanning.find_at-end, Laws.Scanning.find_at-hit, Laws.Scanning.find_at-on, Laws.Scanning.find_at-start}
+use Rattle.model.specs.{Explanation.link_at, Explanation.witness, Lifecycle.relies, Records.blank_link}
+use Rattle.explain.proofs.witnesses.link_of.Goals as goal
+
+pub loop-i-init : goal.loop-i-init
+loop-i-init c = find_at-start (omega arith) c.at_most-end.ensures
+
+pub returns-then-l-provider_in : goal.returns-then-l-provider_in
+unfolding relies
+returns-then-l-provider_in c = c.link_at.ensures ∙ ap (witness link_at) (find_at-hit c.loop-i.invariant blank_link c.loop-i-test.true (rw (← c.provider_in.ensures) c.if-l-provider_in.true))
+
+pub loop-i-preserved : goal.loop-i-preserved
+unfolding relies
+loop-i-preserved c = find_at-on c.loop-i.invariant blank_link c.loop-i-test.true (rw (← c.provider_in.ensures) c.if-l-provider_in.false)
+
+pub returns : goal.returns
+returns c = ap (witness link_at) (find_at-end c.loop-i.invariant c.loop-i-test.false)
