@@ -1,5 +1,5 @@
 // The status of a kernel in words: a line for each present component, or a shorter one for each of a list.
-ghost use Rattle.std.specs.Prelude.{◌≤◌, IfOk, length};
+ghost use Rattle.std.specs.Prelude.{◌≡◌, ◌≤◌, IfOk, OnErr, length};
 
 use crate::{answers, bytes, either, end, field};
 use kernel::Kernel;
@@ -100,7 +100,8 @@ fn component(
     id: usize,
     all: bool,
 ) -> io::Result<usize>
-    ensures { IfOk result (λ n. n ≤ length out.old) }
+    ensures ok { IfOk result (λ n. n ≤ length out.old) }
+    ensures err { OnErr result (length out.new ≡ length out.old) }
 {
     let at = phase(out, at, kernel, id);
     let at = rest_if(out, at, all, kernel, id);
@@ -116,7 +117,8 @@ fn lines(
     list: Identities,
     all: bool,
 ) -> io::Result<usize>
-    ensures { IfOk result (λ n. n ≤ length out.old) }
+    ensures ok { IfOk result (λ n. n ≤ length out.old) }
+    ensures err { OnErr result (length out.new ≡ length out.old) }
 {
     let count = loops::at_most(list.count, IDENTITIES);
     let mut at = loops::at_most(at, out.len());
@@ -130,7 +132,8 @@ fn lines(
 
 // A line for each present component, ascending.
 pub fn components(rt: &impl Print, out: &mut [u8], at: usize, kernel: Kernel) -> io::Result<usize>
-    ensures { IfOk result (λ n. n ≤ length out.old) }
+    ensures ok { IfOk result (λ n. n ≤ length out.old) }
+    ensures err { OnErr result (length out.new ≡ length out.old) }
 {
     lines(rt, out, at, kernel, kernel.ids(), true)
 }
@@ -143,7 +146,8 @@ pub fn phases(
     kernel: Kernel,
     list: Identities,
 ) -> io::Result<usize>
-    ensures { IfOk result (λ n. n ≤ length out.old) }
+    ensures ok { IfOk result (λ n. n ≤ length out.old) }
+    ensures err { OnErr result (length out.new ≡ length out.old) }
 {
     lines(rt, out, at, kernel, list, false)
 }

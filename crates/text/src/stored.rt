@@ -1,5 +1,5 @@
 // The tables: the counts, then a line for each record below them.
-ghost use Rattle.std.specs.Prelude.{◌≤◌, IfOk, length};
+ghost use Rattle.std.specs.Prelude.{◌≡◌, ◌≤◌, IfOk, OnErr, length};
 
 use crate::{bytes, end, field, flag};
 use kernel::Kernel;
@@ -28,7 +28,8 @@ fn parent(out: &mut [u8], at: usize, parent: Parent) -> usize
 }
 
 fn node(rt: &impl Print, out: &mut [u8], at: usize, place: usize, node: Node) -> io::Result<usize>
-    ensures { IfOk result (λ n. n ≤ length out.old) }
+    ensures ok { IfOk result (λ n. n ≤ length out.old) }
+    ensures err { OnErr result (length out.new ≡ length out.old) }
 {
     let now = node.phase;
     let above = records::parent_in(node);
@@ -50,7 +51,8 @@ fn declaration(
     place: usize,
     declaration: Declaration,
 ) -> io::Result<usize>
-    ensures { IfOk result (λ n. n ≤ length out.old) }
+    ensures ok { IfOk result (λ n. n ≤ length out.old) }
+    ensures err { OnErr result (length out.new ≡ length out.old) }
 {
     let port = records::declared_port(declaration);
     let at = bytes(out, at, b"decl");
@@ -63,7 +65,8 @@ fn declaration(
 }
 
 fn link(rt: &impl Print, out: &mut [u8], at: usize, place: usize, link: Link) -> io::Result<usize>
-    ensures { IfOk result (λ n. n ≤ length out.old) }
+    ensures ok { IfOk result (λ n. n ≤ length out.old) }
+    ensures err { OnErr result (length out.new ≡ length out.old) }
 {
     let binding = records::binding_in(link);
     let at = bytes(out, at, b"link");
@@ -78,7 +81,8 @@ fn link(rt: &impl Print, out: &mut [u8], at: usize, place: usize, link: Link) ->
 }
 
 fn counts(rt: &impl Print, out: &mut [u8], at: usize, kernel: Kernel) -> io::Result<usize>
-    ensures { IfOk result (λ n. n ≤ length out.old) }
+    ensures ok { IfOk result (λ n. n ≤ length out.old) }
+    ensures err { OnErr result (length out.new ≡ length out.old) }
 {
     let at = bytes(out, at, b"counts");
     let at = field(out, at, kernel.node_count as u64);
@@ -89,7 +93,8 @@ fn counts(rt: &impl Print, out: &mut [u8], at: usize, kernel: Kernel) -> io::Res
 
 // The record at this place of the three tables one after another, if it is below its table's count.
 fn record(rt: &impl Print, out: &mut [u8], at: usize, kernel: Kernel, i: usize) -> io::Result<usize>
-    ensures { IfOk result (λ n. n ≤ length out.old) }
+    ensures ok { IfOk result (λ n. n ≤ length out.old) }
+    ensures err { OnErr result (length out.new ≡ length out.old) }
 {
     if i < IDENTITIES {
         if i < kernel.node_count {
@@ -115,7 +120,8 @@ fn record(rt: &impl Print, out: &mut [u8], at: usize, kernel: Kernel, i: usize) 
 
 // The counts, then the records below them: nodes, declarations, links.
 pub fn tables(rt: &impl Print, out: &mut [u8], at: usize, kernel: Kernel) -> io::Result<usize>
-    ensures { IfOk result (λ n. n ≤ length out.old) }
+    ensures ok { IfOk result (λ n. n ≤ length out.old) }
+    ensures err { OnErr result (length out.new ≡ length out.old) }
 {
     let mut at = counts(rt, out, at, kernel)?;
     let mut i = 0;
