@@ -29,7 +29,7 @@ use commands::Reply;
 use state::State;
 use std::fs::File;
 use std::io;
-use text::logs::{argument, argument_count, open, read_open};
+use text::logs::{argument, argument_count, open, read_full};
 use text::words::{Line, place_of, word};
 
 // The names of the steps, and how many operands each has. 0 to 19 hand back a kernel: compactions are 10 and 11, insert and configure 12 and 13,
@@ -252,8 +252,7 @@ fn read_file(file: Option<File>, out: &mut [u8]) -> usize
     let Some(mut file) = file else {
         return 0;
     };
-    let read = read_open(&mut file, out);
-    read.count
+    read_full(&mut file, out)
 }
 
 // The first 65,536 bytes of the file that is argument i.

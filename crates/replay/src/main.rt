@@ -3,7 +3,7 @@
 
 use std::io;
 use std::io::Read;
-use text::logs::{argument, argument_count, open, read_open};
+use text::logs::{argument, argument_count, open, read_full, reads_on};
 
 fn cannot_read(rt: &HostRuntime, name: &[u8]) -> io::Result<()> {
     let stderr = rt.stderr();
@@ -23,11 +23,10 @@ fn write_answers(rt: &HostRuntime, answers: &[u8], count: usize) -> io::Result<(
 // Plays the first 65,536 bytes of what is open.
 fn replay(rt: &HostRuntime, file: &mut impl Read, name: &[u8]) -> io::Result<()> {
     let mut log = [0u8; 65536];
-    let read = read_open(file, &mut log);
-    if !read.whole {
+    let n = read_full(file, &mut log);
+    if !reads_on(file) {
         return cannot_read(rt, name);
     }
-    let n = read.count;
     let mut given = [0u8; 65536];
     let played = player::play(player::start(), &log[..n], &mut given);
     let kernel = played.kernel;

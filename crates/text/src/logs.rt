@@ -112,15 +112,13 @@ fn not_opened() -> LogRead
     }
 }
 
-// The first bytes of what is open.
-pub fn read_open(file: &mut impl Read, log: &mut [u8]) -> LogRead
-    ensures { result.count ≤ length log.old }
+// Reads until the buffer is full, the input ends or a read fails; gives how many bytes it put at the start.
+pub fn read_full(file: &mut impl Read, log: &mut [u8]) -> usize
+    ensures { result ≤ length log.old }
 {
     let mut count = 0;
-    let mut whole = true;
     while count < log.len() {
         let Ok(more) = file.read(&mut log[count..]) else {
-            whole = false;
             break;
         };
         if more == 0 {
@@ -128,10 +126,24 @@ pub fn read_open(file: &mut impl Read, log: &mut [u8]) -> LogRead
         }
         count += more;
     }
+    count
+}
+
+// Whether the next read, of a byte, does not fail.
+pub fn reads_on(file: &mut impl Read) -> bool {
+    let mut more = [0u8; 1];
+    file.read(&mut more).is_ok()
+}
+
+// The first bytes of what is open.
+pub fn read_open(file: &mut impl Read, log: &mut [u8]) -> LogRead
+    ensures { result.count ≤ length log.old }
+{
+    let count = read_full(file, log);
     LogRead {
         opened: true,
         count: count,
-        whole: whole,
+        whole: count == log.len() || reads_on(file),
     }
 }
 
@@ -151,14 +163,14 @@ pub fn read_log(rt: &impl Files, name: &[u8], log: &mut [u8]) -> LogRead
     read_open(&mut file, log)
 }
 
-// Writes what is gathered to standard error; the next place is the start.
+// Writes what is gathered to standard error; the next place is the start. An error is the failed write's.
 pub fn warn(stderr: Stderr, out: &[u8], at: usize) -> io::Result<usize>
     ensures { IfOk result (λ n. n ≡ 0) }
 {
     crate::flush(&stderr, out, at)
 }
 
-// Says of a log that it could not be read whole or that this answer ended it, and then what is made of it, or of a file that was not opened; nothing of another log.
+// Says of a log that it could not be read whole or that this answer ended it, and then what is made of it, or of a file that was not opened; nothing of another log. An error is the failed write's.
 pub fn tell(
     stderr: Stderr,
     program: &[u8],
