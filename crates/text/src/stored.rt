@@ -1,11 +1,10 @@
 // The tables: the counts, then a line for each record below them.
-ghost use Rattle.std.specs.Prelude.{◌≡◌, ◌≤◌, IfOk, OnErr, length};
+ghost use Rattle.std.specs.Prelude.{◌≤◌, length};
 
 use crate::{bytes, end, field, flag};
 use kernel::Kernel;
 use model::{Declaration, Link, Node, Parent, Phase};
 use sizes::{DECLARATIONS, IDENTITIES, LINKS};
-use std::io;
 
 pub fn phase(out: &mut [u8], at: usize, phase: Phase) -> usize
     ensures { result ≤ length out.old }
@@ -27,9 +26,8 @@ fn parent(out: &mut [u8], at: usize, parent: Parent) -> usize
     }
 }
 
-fn node(rt: &impl Print, out: &mut [u8], at: usize, place: usize, node: Node) -> io::Result<usize>
-    ensures ok { IfOk result (λ n. n ≤ length out.old) }
-    ensures err { OnErr result (length out.new ≡ length out.old) }
+fn node(rt: &impl Print, out: &mut [u8], at: usize, place: usize, node: Node) -> usize
+    ensures { result ≤ length out.old }
 {
     let now = node.phase;
     let above = records::parent_in(node);
@@ -50,9 +48,8 @@ fn declaration(
     at: usize,
     place: usize,
     declaration: Declaration,
-) -> io::Result<usize>
-    ensures ok { IfOk result (λ n. n ≤ length out.old) }
-    ensures err { OnErr result (length out.new ≡ length out.old) }
+) -> usize
+    ensures { result ≤ length out.old }
 {
     let port = records::declared_port(declaration);
     let at = bytes(out, at, b"decl");
@@ -64,9 +61,8 @@ fn declaration(
     end(rt, out, at)
 }
 
-fn link(rt: &impl Print, out: &mut [u8], at: usize, place: usize, link: Link) -> io::Result<usize>
-    ensures ok { IfOk result (λ n. n ≤ length out.old) }
-    ensures err { OnErr result (length out.new ≡ length out.old) }
+fn link(rt: &impl Print, out: &mut [u8], at: usize, place: usize, link: Link) -> usize
+    ensures { result ≤ length out.old }
 {
     let binding = records::binding_in(link);
     let at = bytes(out, at, b"link");
@@ -80,9 +76,8 @@ fn link(rt: &impl Print, out: &mut [u8], at: usize, place: usize, link: Link) ->
     end(rt, out, at)
 }
 
-fn counts(rt: &impl Print, out: &mut [u8], at: usize, kernel: Kernel) -> io::Result<usize>
-    ensures ok { IfOk result (λ n. n ≤ length out.old) }
-    ensures err { OnErr result (length out.new ≡ length out.old) }
+fn counts(rt: &impl Print, out: &mut [u8], at: usize, kernel: Kernel) -> usize
+    ensures { result ≤ length out.old }
 {
     let at = bytes(out, at, b"counts");
     let at = field(out, at, kernel.node_count as u64);
@@ -92,22 +87,21 @@ fn counts(rt: &impl Print, out: &mut [u8], at: usize, kernel: Kernel) -> io::Res
 }
 
 // The record at this place of the three tables one after another, if it is below its table's count.
-fn record(rt: &impl Print, out: &mut [u8], at: usize, kernel: Kernel, i: usize) -> io::Result<usize>
-    ensures ok { IfOk result (λ n. n ≤ length out.old) }
-    ensures err { OnErr result (length out.new ≡ length out.old) }
+fn record(rt: &impl Print, out: &mut [u8], at: usize, kernel: Kernel, i: usize) -> usize
+    ensures { result ≤ length out.old }
 {
     if i < IDENTITIES {
         if i < kernel.node_count {
             return node(rt, out, at, i, kernel.nodes[i]);
         }
-        return Ok(loops::at_most(at, out.len()));
+        return loops::at_most(at, out.len());
     }
     let i = i - IDENTITIES;
     if i < DECLARATIONS {
         if i < kernel.declaration_count {
             return declaration(rt, out, at, i, kernel.declarations[i]);
         }
-        return Ok(loops::at_most(at, out.len()));
+        return loops::at_most(at, out.len());
     }
     let i = i - DECLARATIONS;
     if i < LINKS {
@@ -115,19 +109,18 @@ fn record(rt: &impl Print, out: &mut [u8], at: usize, kernel: Kernel, i: usize) 
             return link(rt, out, at, i, kernel.links[i]);
         }
     }
-    Ok(loops::at_most(at, out.len()))
+    loops::at_most(at, out.len())
 }
 
 // The counts, then the records below them: nodes, declarations, links.
-pub fn tables(rt: &impl Print, out: &mut [u8], at: usize, kernel: Kernel) -> io::Result<usize>
-    ensures ok { IfOk result (λ n. n ≤ length out.old) }
-    ensures err { OnErr result (length out.new ≡ length out.old) }
+pub fn tables(rt: &impl Print, out: &mut [u8], at: usize, kernel: Kernel) -> usize
+    ensures { result ≤ length out.old }
 {
-    let mut at = counts(rt, out, at, kernel)?;
+    let mut at = counts(rt, out, at, kernel);
     let mut i = 0;
     while i < IDENTITIES + DECLARATIONS + LINKS {
-        at = record(rt, out, at, kernel, i)?;
+        at = record(rt, out, at, kernel, i);
         i += 1;
     }
-    Ok(at)
+    at
 }

@@ -131,9 +131,9 @@ in_declares ds o p b m = in_any (is_declaration o p b) m (declaration_passes o p
 
 -- ---- the parts of the test
 
-pub node_of : (ns : List Node) (i : ℕ) (n : Node) → node_ok ns i n ≡ true → NodeOk ns i n
+pub node_of_lem : (ns : List Node) (i : ℕ) (n : Node) → node_ok ns i n ≡ true → NodeOk ns i n
 unfolding node_ok
-node_of ns i n h =
+node_of_lem ns i n h =
     let e : Each (consistency_tests n) = each (consistency_tests n) (and_l (is_consistent n) _ h) in
     record {
       absent-inactive = λ a. imp_e (not n.present) (is_inactive n.phase) e.0 (f_not n.present a);
@@ -202,7 +202,7 @@ unfolding node_at
 nodes-of ns h i = go (dec_lt i (length ns))
   where
     go : Dec (i < length ns) → NodeOk ns i (get_or ns i blank_node)
-    go (yes l) = node_of ns i (get_or ns i blank_node) (rw (zero-add i) at (all_at-at (node_ok ns) 0 ns h i blank_node l))
+    go (yes l) = node_of_lem ns i (get_or ns i blank_node) (rw (zero-add i) at (all_at-at (node_ok ns) 0 ns h i blank_node l))
     go (no l) = rw (List·getD-eq-default ns blank_node {n = i} (omega arith)) (blank_ok ns i)
 
 -- ---- the test as a whole

@@ -122,7 +122,7 @@ module _ (S : Sizes) (T : Tables) (s : Subject) where
         let f = n.first in
         let unmet : Unmet T id u.port u.found = record {
           declared = n.declared;
-          looked_up_lem = f.reason;
+          looked_up = f.reason;
           first = (f.place, (f.stands, λ o x. f.unprovided o (sym f.reason ∙ x), λ j q l a g. let (o, x) = f.earlier j q l a in g o x));
         } in
         rw y ((id, named, unmet), (u, refl))
@@ -312,7 +312,7 @@ module _ (S : Sizes) (k : Layout) (c : Command) where
   reason : sound_kernel S k ≡ true → (r : Refusal) (u : Unresolved) → explained_on S k c ≡ Explanation.Refused r → r.witness ≡ Witness.Dependency u → Says (tables_of k) u.port u.found
   reason h r u e w =
       let (id, i, unmet) = subst (Real S (tables_of k) (subject c)) w (behind h r e).real in
-      subst (Says (tables_of k) u.port) unmet.looked_up_lem (resolve-says S (tables_of k) (tables-sound S k h) u.port)
+      subst (Says (tables_of k) u.port) unmet.looked_up (resolve-says S (tables_of k) (tables-sound S k h) u.port)
 
 pub every_refusal_explained : EveryRefusalExplained
 every_refusal_explained S k c = record {
