@@ -1,4 +1,4 @@
-//! (a) The compiled Rattle kernel, through the static library `player`: one call plays a whole log.
+//! (a) The compiled Rattle kernel, through the static library `player_c`: one call plays a whole log.
 
 /// A player that a static library exports: a log, its length, the answers, their length.
 type Exported = unsafe extern "C" fn(*const u8, usize, *mut u8, usize) -> usize;

@@ -1,4 +1,4 @@
-//! (a) The compiled Rattle drain, stop and affected, through the static library `player`.
+//! (a) The compiled Rattle drain, stop and affected, through the static library `player_c`.
 use crate::script::Script;
 
 extern "C" {

@@ -1,4 +1,4 @@
-//! (a) The compiled Rattle explanation of a log's last command, and that command, through the static library `reasons`; the log is played through `player`.
+//! (a) The compiled Rattle explanation of a log's last command, and that command, through the static library `reasons_c`; the log is played through `player_c`.
 use crate::script::Script;
 use crate::{log, rattle};
 

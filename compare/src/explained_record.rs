@@ -1,4 +1,4 @@
-//! The explanation of a command as the library `player` writes it.
+//! The explanation of a command as the library `reasons` writes it.
 use crate::record::Bytes;
 use crate::reference::rows::Reason;
 

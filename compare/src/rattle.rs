@@ -1,4 +1,4 @@
-//! The compiled Rattle kernel, through the static library `player`.
+//! The compiled Rattle kernel, through the static library `player_c`.
 
 extern "C" {
     fn nobrighi_play(log: *const u8, log_len: usize, answers: *mut u8, answers_len: usize) -> usize;

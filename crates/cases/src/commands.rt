@@ -1,131 +1,128 @@
 // The steps that hand back a kernel: the fourteen commands, stop, and those that write it by hand.
-use crate::state::{State, written};
-use drain::Stopped;
-use kernel::{CompactionOutcome, InsertOutcome, Kernel, Outcome};
-use model::InsertAnswer;
-use text::made::{identity_of, parent_of, port_of};
+use crate::state::State;
+use crate::steps::{ByHand, Command};
+use explain::Call;
+use kernel::{Kernel, Outcome};
+use model::Error;
+use std::fmt;
+use text::answers::Reply;
+use text::made::port_of;
 use text::words::Line;
 
-// refusal: 0 is done; detail: the identity that insert issued, how many records a compaction removed, how many commands stop took.
+// What is answered: that it is done; the identity that insert issued; how many records a compaction removed; how many commands stop took.
 #[derive(Clone, Copy)]
-pub struct Reply {
+pub enum Answer {
+    Done(Result<(), Error>),
+    Issued(Result<usize, Error>),
+    Removed(Result<usize, Error>),
+    Stopped(Result<usize, Error>),
+}
+
+impl fmt::Display for Answer {
+    fn fmt<W: fmt::Write>(&self, f: &mut fmt::Formatter<W>) -> fmt::Result {
+        match self {
+            Answer::Done(answer) => write!(f, "{}", Reply(answer)),
+            Answer::Issued(Ok(id)) => write!(f, "identity {id}"),
+            Answer::Issued(refused) => write!(f, "{}", Reply(refused)),
+            Answer::Removed(answer) => {
+                write!(f, "{}, removed {}", Reply(answer), answer.unwrap_or(0))
+            }
+            Answer::Stopped(answer) => {
+                write!(f, "{}, commands {}", Reply(answer), answer.unwrap_or(0))
+            }
+        }
+    }
+}
+
+// The kernel handed back, and the answer.
+#[derive(Clone, Copy)]
+pub struct Done {
     pub kernel: Kernel,
-    pub refusal: u8,
-    pub detail: u64,
+    pub answer: Answer,
 }
 
-// The commands that name an identity and take no list.
-fn outcome(state: State, line: Line) -> Outcome {
-    let kernel = state.kernel;
-    let id = identity_of(line.first);
-    let port = port_of(line.second, line.third);
-    let name = line.name;
-    match name {
-        0 => kernel.begin(id),
-        1 => kernel.finish(id),
-        2 => kernel.leave(id),
-        3 => kernel.leave_if_changed(id),
-        4 => kernel.retire(id),
-        5 => kernel.begin_cleanup(id),
-        6 => kernel.finish_cleanup(id),
-        7 => kernel.remove(id),
-        8 => kernel.declare_provision(id, port),
-        _ => kernel.release_provision(id, port),
+fn answered<T, F: FnOnce(Result<T, Error>) -> Answer>(outcome: Outcome<T>, answer: F) -> Done
+    requires { F.IsAlwaysCallable answer }
+{
+    Done {
+        kernel: outcome.kernel,
+        answer: answer(outcome.answer),
     }
 }
 
-fn configured(state: State, line: Line) -> Outcome {
-    let kernel = state.kernel;
-    let list = state.dependencies;
-    kernel.configure_pending_dependencies(identity_of(line.first), list)
-}
-
-fn of_outcome(outcome: Outcome) -> Reply {
-    let kernel = outcome.kernel;
-    let answer = outcome.answer;
-    Reply {
-        kernel: kernel,
-        refusal: records::answer_number(answer),
-        detail: 0,
+// The command with its operands, and the lists.
+pub fn call_of(command: Command, state: &State, line: Line) -> Call {
+    let [first, second, third, ..] = line.operands;
+    let (id, port) = (first.id(), port_of(second, third));
+    let State {
+        dependencies,
+        provisions,
+        ..
+    } = *state;
+    match command {
+        Command::Begin => Call::Begin { id },
+        Command::Finish => Call::Finish { id },
+        Command::Leave => Call::Leave { id },
+        Command::LeaveIfChanged => Call::LeaveIfChanged { id },
+        Command::Retire => Call::Retire { id },
+        Command::BeginCleanup => Call::BeginCleanup { id },
+        Command::FinishCleanup => Call::FinishCleanup { id },
+        Command::Remove => Call::Remove { id },
+        Command::DeclareProvision => Call::DeclareProvision { id, port },
+        Command::ReleaseProvision => Call::ReleaseProvision { id, port },
+        Command::CompactBindings => Call::CompactBindings,
+        Command::CompactDeclarations => Call::CompactDeclarations,
+        Command::Insert => Call::Insert {
+            parent: line.parent(first),
+            dependencies,
+            provisions,
+        },
+        Command::ConfigurePendingDependencies => {
+            Call::ConfigurePendingDependencies { id, dependencies }
+        }
     }
 }
 
-fn of_compaction(outcome: CompactionOutcome) -> Reply {
-    let kernel = outcome.kernel;
-    let answer = outcome.answer;
-    Reply {
-        kernel: kernel,
-        refusal: records::answer_number(answer),
-        detail: outcome.removed as u64,
+pub fn run(kernel: Kernel, call: Call) -> Done {
+    match call {
+        Call::Begin { id } => answered(kernel.begin(id), Answer::Done),
+        Call::Finish { id } => answered(kernel.finish(id), Answer::Done),
+        Call::Leave { id } => answered(kernel.leave(id), Answer::Done),
+        Call::LeaveIfChanged { id } => answered(kernel.leave_if_changed(id), Answer::Done),
+        Call::Retire { id } => answered(kernel.retire(id), Answer::Done),
+        Call::BeginCleanup { id } => answered(kernel.begin_cleanup(id), Answer::Done),
+        Call::FinishCleanup { id } => answered(kernel.finish_cleanup(id), Answer::Done),
+        Call::Remove { id } => answered(kernel.remove(id), Answer::Done),
+        Call::DeclareProvision { id, port } => {
+            answered(kernel.declare_provision(id, port), Answer::Done)
+        }
+        Call::ReleaseProvision { id, port } => {
+            answered(kernel.release_provision(id, port), Answer::Done)
+        }
+        Call::CompactBindings => answered(kernel.compact_bindings(), Answer::Removed),
+        Call::CompactDeclarations => answered(kernel.compact_declarations(), Answer::Removed),
+        Call::Insert {
+            parent,
+            dependencies,
+            provisions,
+        } => answered(
+            kernel.insert(parent, dependencies, provisions),
+            Answer::Issued,
+        ),
+        Call::ConfigurePendingDependencies { id, dependencies } => answered(
+            kernel.configure_pending_dependencies(id, dependencies),
+            Answer::Done,
+        ),
     }
 }
 
-fn issued(answer: InsertAnswer) -> u64 {
-    match answer {
-        InsertAnswer::Done(id) => id as u64,
-        InsertAnswer::Refused(_) => 0,
-    }
+pub fn stop(kernel: Kernel) -> Done {
+    answered(drain::stop(kernel), Answer::Stopped)
 }
 
-fn inserted(state: State, line: Line) -> InsertOutcome {
-    let kernel = state.kernel;
-    let dependencies = state.dependencies;
-    let provisions = state.provisions;
-    kernel.insert(parent_of(line.none, line.first), dependencies, provisions)
-}
-
-fn of_insertion(outcome: InsertOutcome) -> Reply {
-    let kernel = outcome.kernel;
-    let answer = outcome.answer;
-    Reply {
-        kernel: kernel,
-        refusal: records::insert_answer_number(answer),
-        detail: issued(answer),
+pub fn write(state: &State, how: ByHand, line: Line) -> Done {
+    Done {
+        kernel: state.written(how, line),
+        answer: Answer::Done(Ok(())),
     }
-}
-
-fn of_stop(stopped: Stopped) -> Reply {
-    let kernel = stopped.kernel;
-    let answer = stopped.answer;
-    Reply {
-        kernel: kernel,
-        refusal: records::answer_number(answer),
-        detail: stopped.commands as u64,
-    }
-}
-
-fn by_hand(kernel: Kernel) -> Reply {
-    Reply {
-        kernel: kernel,
-        refusal: 0,
-        detail: 0,
-    }
-}
-
-fn compacted(state: State, line: Line) -> CompactionOutcome {
-    let kernel = state.kernel;
-    if line.name == 10 {
-        return kernel.compact_bindings();
-    }
-    kernel.compact_declarations()
-}
-
-pub fn reply_of(state: State, line: Line) -> Reply {
-    if line.name < 10 {
-        return of_outcome(outcome(state, line));
-    }
-    if line.name < 12 {
-        return of_compaction(compacted(state, line));
-    }
-    if line.name == 12 {
-        return of_insertion(inserted(state, line));
-    }
-    if line.name == 13 {
-        return of_outcome(configured(state, line));
-    }
-    if line.name == 45 {
-        let kernel = state.kernel;
-        return of_stop(drain::stop(kernel));
-    }
-    by_hand(written(state, line))
 }

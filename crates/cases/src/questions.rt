@@ -1,142 +1,108 @@
 // The checks and the observers, the tables, the drain, and who is hit if a component leaves.
 use crate::state::State;
+use crate::steps::{Check, Count, Observer, Test};
 use drain::Drain;
-use impact::Affected;
 use kernel::Kernel;
-use model::{Answer, Step, StepCommand};
-use sizes::STEPS;
-use text::made::{identity_of, parent_of, port_of};
+use model::{Error, Step, StepCommand};
+use results::Identities;
+use std::io::{self, Write};
+use text::answers::{Committed, Ids, OrNone, Reply, Target};
+use text::made::port_of;
+use text::stored::Tables;
 use text::words::Line;
 
-fn holds(kernel: Kernel, line: Line) -> bool {
-    let id = identity_of(line.first);
-    let port = port_of(line.second, line.third);
-    let name = line.name;
-    match name {
-        23 => kernel.sound(),
-        24 => kernel.contains(id),
-        25 => kernel.retired(id),
-        26 => kernel.cleanup_started(id),
-        27 => kernel.dependency_declared(id, port),
-        _ => kernel.provision_reserved(id, port),
+pub fn holds(kernel: &Kernel, test: Test, line: Line) -> bool {
+    let [first, second, third, ..] = line.operands;
+    let (id, port) = (first.id(), port_of(second, third));
+    match test {
+        Test::Sound => kernel.sound(),
+        Test::Contains => kernel.contains(id),
+        Test::Retired => kernel.retired(id),
+        Test::CleanupStarted => kernel.cleanup_started(id),
+        Test::DependencyDeclared => kernel.dependency_declared(id, port),
+        Test::ProvisionReserved => kernel.provision_reserved(id, port),
     }
 }
 
-fn count(kernel: Kernel, line: Line) -> usize {
-    let name = line.name;
-    match name {
-        29 => kernel.binding_records(),
-        30 => kernel.identity_slots(),
-        _ => kernel.declaration_records(),
+pub fn number(kernel: &Kernel, count: Count) -> usize {
+    match count {
+        Count::BindingRecords => kernel.binding_records(),
+        Count::IdentitySlots => kernel.identity_slots(),
+        Count::DeclarationRecords => kernel.declaration_records(),
     }
 }
 
-fn checked(state: State, line: Line) -> Answer {
-    let kernel = state.kernel;
-    if line.name == 33 {
-        return kernel.check_iteration(identity_of(line.first));
+pub fn checked(state: &State, check: Check, line: Line) -> Result<(), Error> {
+    let State {
+        kernel,
+        dependencies,
+        provisions,
+        ..
+    } = state;
+    let [first, ..] = line.operands;
+    match check {
+        Check::Insert => kernel.check_insert(line.parent(first), *dependencies, *provisions),
+        Check::Iteration => kernel.check_iteration(first.id()),
     }
-    let above = parent_of(line.none, line.first);
-    let dependencies = state.dependencies;
-    let provisions = state.provisions;
-    kernel.check_insert(above, dependencies, provisions)
 }
 
 // Whether the kernel is sound, then its tables.
-fn tables(rt: &HostRuntime, kernel: Kernel, out: &mut [u8], at: usize) -> usize {
-    let at = text::either(out, at, kernel.sound(), b" sound", b" not sound");
-    let at = text::end(rt, out, at);
-    text::stored::tables(rt, out, at, kernel)
+fn tables<W: Write>(out: &mut W, kernel: &Kernel) -> io::Result<()> {
+    let sound = if kernel.sound() { "sound" } else { "not sound" };
+    write!(out, "{sound}\n{}", Tables(kernel))
 }
 
-fn is_leave(command: StepCommand) -> bool {
-    match command {
-        StepCommand::Leave => true,
-        StepCommand::BeginCleanup => false,
-        StepCommand::FinishCleanup => false,
+fn is_blank(step: &Step) -> bool {
+    matches!(step.command, StepCommand::Leave) && step.id == 0
+}
+
+// A drain's answer, its count and its steps, past the count those that are not blank; of a refusal none.
+fn drained<W: Write>(out: &mut W, drain: Result<Drain, Error>) -> io::Result<()> {
+    write!(out, "{}, steps", Reply(&drain))?;
+    let Ok(drain) = drain else {
+        return write!(out, " 0");
+    };
+    write!(out, " {}", drain.count)?;
+    for (place, step) in drain.steps.iter().enumerate() {
+        if place < drain.count || !is_blank(step) {
+            write!(out, ", {step}")?;
+        }
     }
+    Ok(())
 }
 
-// A comma and a step of a drain; past the count nothing of a blank one.
-fn drain_step(out: &mut [u8], at: usize, step: Step, counted: bool) -> usize {
-    let command = step.command;
-    if !counted & is_leave(command) & (step.id == 0) {
-        return at;
-    }
-    let at = text::bytes(out, at, b", ");
-    text::steps::step(out, at, step)
-}
-
-// A drain's answer, its count and its steps.
-fn drained(drain: Drain, out: &mut [u8], at: usize) -> usize {
-    let answer = drain.answer;
-    let steps = drain.steps;
-    let count = drain.count;
-    let at = text::answers::answer(out, at, records::answer_number(answer));
-    let at = text::bytes(out, at, b", steps");
-    let mut at = text::field(out, at, count as u64);
-    let mut i = 0;
-    while i < STEPS {
-        at = drain_step(out, at, steps[i], i < count);
-        i += 1;
-    }
-    at
-}
-
-// Leave's answer, and who is hit.
-fn hit(affected: Affected, out: &mut [u8], at: usize) -> usize {
-    let answer = affected.answer;
-    let ids = affected.ids;
-    let at = text::answers::answer(out, at, records::answer_number(answer));
-    let at = text::bytes(out, at, b",");
-    text::answers::identities(out, at, ids)
-}
-
-// The generation in the live link of a consumer and a port.
-fn linked(kernel: Kernel, line: Line, out: &mut [u8], at: usize) -> usize {
-    let port = port_of(line.second, line.third);
-    text::answers::generation(
-        out,
-        at,
-        kernel.link_generation(identity_of(line.first), port),
-    )
-}
-
-fn found(rt: &HostRuntime, kernel: Kernel, line: Line, out: &mut [u8], at: usize) -> usize {
-    let id = identity_of(line.first);
-    let port = port_of(line.first, line.second);
-    let name = line.name;
-    match name {
-        34 => text::answers::phase(out, at, kernel.phase(id)),
-        35 => text::answers::generation(out, at, kernel.episode_generation(id)),
-        36 => text::answers::identities(out, at, kernel.ids()),
-        37 => text::answers::identities(out, at, kernel.children(id)),
-        38 => text::answers::resolution(out, at, kernel.resolve(port)),
-        39 => text::answers::target(out, at, kernel.target(id)),
-        40 => text::answers::committed(out, at, kernel.committed(id)),
-        41 => linked(kernel, line, out, at),
-        42 => tables(rt, kernel, out, at),
-        43 => drained(drain::drain(kernel), out, at),
-        _ => hit(impact::affected(kernel, id), out, at),
+// Leave's answer, and who is hit; of a refusal nobody.
+fn hit<W: Write>(out: &mut W, affected: Result<Identities, Error>) -> io::Result<()> {
+    write!(out, "{}, ", Reply(&affected))?;
+    match affected {
+        Ok(ids) => write!(out, "{}", Ids(&ids)),
+        Err(_) => write!(out, "empty"),
     }
 }
 
 // The answer of an observer.
-fn observed(rt: &HostRuntime, kernel: Kernel, line: Line, out: &mut [u8], at: usize) -> usize {
-    if line.name < 29 {
-        return text::either(out, at, holds(kernel, line), b" yes", b" no");
+pub fn observed<W: Write>(
+    out: &mut W,
+    kernel: &Kernel,
+    observer: Observer,
+    line: Line,
+) -> io::Result<()> {
+    let [first, second, third, ..] = line.operands;
+    let id = first.id();
+    match observer {
+        Observer::Phase => write!(out, "{}", OrNone(kernel.phase(id))),
+        Observer::EpisodeGeneration => write!(out, "{}", OrNone(kernel.episode_generation(id))),
+        Observer::Ids => write!(out, "{}", Ids(&kernel.ids())),
+        Observer::Children => write!(out, "{}", Ids(&kernel.children(id))),
+        Observer::Resolve => write!(out, "{}", kernel.resolve(port_of(first, second))),
+        Observer::Target => write!(out, "{}", Target(&kernel.target(id))),
+        Observer::Committed => write!(out, "{}", Committed(&kernel.committed(id))),
+        Observer::LinkGeneration => {
+            let generation = kernel.link_generation(id, port_of(second, third));
+            write!(out, "{}", OrNone(generation))
+        }
+        Observer::Tables => tables(out, kernel),
+        Observer::Drain => drained(out, drain::drain(kernel)),
+        Observer::Affected => hit(out, impact::affected(kernel, id)),
     }
-    if line.name < 32 {
-        return text::field(out, at, count(kernel, line) as u64);
-    }
-    found(rt, kernel, line, out, at)
-}
-
-// The answer to a question.
-pub fn answer(rt: &HostRuntime, state: State, line: Line, out: &mut [u8]) -> usize {
-    if (line.name == 32) | (line.name == 33) {
-        return text::answers::answer(out, 0, records::answer_number(checked(state, line)));
-    }
-    let kernel = state.kernel;
-    observed(rt, kernel, line, out, 0)
 }

@@ -1,12 +1,11 @@
 -- What drain and stop hand back, of every kernel value; what the crate's own pass over the nodes gives; and what is claimed of sound kernels.
-use Rattle.std.specs.Prelude.{◌≡◌, false, true, List, [], map, ◌↔◌, ◌*◌, ◌+◌, ◌<◌, ◌≤◌, ℕ, get_or, length}
+use Rattle.std.specs.Prelude.{◌≡◌, Err, Ok, Result, false, true, List, [], map, ◌↔◌, ◌*◌, ◌+◌, ◌<◌, ◌≤◌, ℕ, get_or, length}
 use Rattle.std.proofs.Math.Option.{none, some}
 use Rattle.drain.specs.declared.steps.Drain.{Drain}
-use Rattle.drain.specs.declared.Stopped.{Stopped}
 use Rattle.drain.specs.declared.stopping.Flags.{Flags}
 use Rattle.kernel.specs.declared.Kernel.{Kernel}
+use Rattle.kernel.specs.declared.Outcome.{Outcome}
 use Rattle.kernel.specs.Fields.{ask, is_sound, kernel_of, layout_of}
-use Rattle.model.specs.declared.Answer.{Answer}
 use Rattle.model.specs.declared.Error.{Error}
 use Rattle.model.specs.declared.Phase.{Phase}
 use Rattle.model.specs.declared.Step.{Step}
@@ -24,16 +23,18 @@ use Rattle.sizes.specs.Sizes.{STEPS, sizes}
 abbrev pub steps_of : Kernel → List Step
 steps_of k = ask k [] drain
 
+-- steps in the array, and how many they are
+abbrev pub as_drain : List Step → Drain
+as_drain ss = record { steps = padded STEPS blank_step ss; count = length ss }
+
 -- 10 of a kernel that is not sound
-abbrev pub drain_answer : Kernel → Answer
-drain_answer k = ask k (Answer.Refused Error.Damaged) (λ T. Answer.Done)
+abbrev pub drain_of : Kernel → Result Drain Error
+drain_of k = ask k (Err Error.Damaged) (λ T. Ok (as_drain (drain T)))
 
-abbrev pub drain_of : Kernel → Drain
-drain_of k = record { answer = drain_answer k; steps = padded STEPS blank_step (steps_of k); count = length (steps_of k) }
-
--- the kernel that the drain's commands hand back, each on what the one before handed back
-abbrev pub stopped_of : Kernel → Stopped
-stopped_of k = record { kernel = kernel_of (kernel_from sizes (layout_of k) (commands (steps_of k))); answer = drain_answer k; commands = length (steps_of k) }
+-- the kernel that the drain's commands hand back, each on what the one before handed back; and how many they are
+abbrev pub stopped_of : Kernel → Outcome ℕ
+stopped_of k =
+    record { kernel = kernel_of (kernel_from sizes (layout_of k) (commands (steps_of k))); answer = ask k (Err Error.Damaged) (λ T. Ok (length (drain T))) }
 
 -- ---- the pass over the nodes
 
@@ -43,6 +44,9 @@ flags_of ns = record { leaving = map must_leave ns; restoring = map is_restoring
 -- ---- what is claimed of a sound kernel, in what its observers answer
 
 pub record Stops (k : Kernel) : Type 0 where
+  -- drain answers the steps, and stop how many they are
+  pub steps : drain_of k ≡ Ok (as_drain (steps_of k))
+  pub number : (stopped_of k).answer ≡ Ok (length (steps_of k))
   -- each command is done on the kernel that the earlier ones hand back
   pub in_turn : KernelInTurn sizes (layout_of k) (commands (steps_of k))
   -- no step stands twice, and there is none exactly if no component is installed

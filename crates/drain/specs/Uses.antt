@@ -1,6 +1,7 @@
--- The links of the components that are to be cleaned: counted by provider, and chained by consumer. In a chain c stands for link c - 1, and 0 for none.
-use Rattle.std.specs.Prelude.{◌≡◌, Bool, ◌&&◌, cond, false, true, List, ◌+◌, ◌<◌, ◌≤◌, ℕ, ltb, get_or, length, set}
-use Rattle.drain.specs.Order.{uses, waits}
+-- The live links of the components that wait to be cleaned: counted by provider, and chained by consumer. In a chain c stands for link c - 1, and 0 for none.
+use Rattle.std.specs.Prelude.{◌≡◌, Bool, ◌&&◌, cond, false, List, ◌+◌, ◌<◌, ◌≤◌, ℕ, ltb, get_or, length, set}
+use Rattle.drain.specs.declared.uses.Uses.{Uses}
+use Rattle.drain.specs.Order.{uses}
 use Rattle.loops.specs.Chains.{latest}
 use Rattle.model.specs.declared.records.Link.{Link}
 use Rattle.model.specs.Lists.{keep}
@@ -14,38 +15,30 @@ Counted waiting ls relied = (p : ℕ) → p < IDENTITIES → get_or relied p 0 �
 
 -- ---- chained by consumer
 
--- a live link of a component that is to be cleaned
-abbrev pub is_use : List Bool → Link → Bool
-is_use serving l = l.live && waits serving (consumer_in l) && ltb (provider_in l) IDENTITIES
+-- a live link from one identity to another
+abbrev pub is_use : Link → Bool
+is_use l = l.live && ltb (consumer_in l) IDENTITIES && ltb (provider_in l) IDENTITIES
 
 -- in whose chain a link stands: its consumer's, or that of no identity
-unfoldable pub chain_of : List Bool → List Link → ℕ → ℕ
-chain_of serving ls i = let l = get_or ls i blank_link in cond (is_use serving l) (consumer_in l) IDENTITIES
+unfoldable pub chain_of : List Link → ℕ → ℕ
+chain_of ls i = let l = get_or ls i blank_link in cond (is_use l) (consumer_in l) IDENTITIES
 
-pub record Chains (serving : List Bool) (ls : List Link) (provider first next : List ℕ) : Type 0 where
-  pub starts : (c : ℕ) → c < IDENTITIES → get_or first c 0 ≡ latest (chain_of serving ls) c (length ls)
-  pub leads : (i : ℕ) → i < length ls → chain_of serving ls i < IDENTITIES → get_or next i 0 ≡ latest (chain_of serving ls) (chain_of serving ls i) i
-  pub providers : (i : ℕ) → i < length ls → chain_of serving ls i < IDENTITIES → get_or provider i 0 ≡ provider_in (get_or ls i blank_link)
+pub record Chains (ls : List Link) (first next : List ℕ) : Type 0 where
+  pub starts : (c : ℕ) → c < IDENTITIES → get_or first c 0 ≡ latest (chain_of ls) c (length ls)
+  pub leads : (i : ℕ) → i < length ls → chain_of ls i < IDENTITIES → get_or next i 0 ≡ latest (chain_of ls) (chain_of ls i) i
 
--- ---- one component cleaned
+-- ---- both, of links that the arrays hold
 
--- it waits, and so did all that wait from the first
-pub record Using (waiting serving : List Bool) (ls : List Link) (provider first next relied : List ℕ) (id : ℕ) : Type 0 where
+pub record Tracks (ls : List Link) (u : Uses) : Type 0 where
   pub fits : length ls ≤ LINKS
-  pub size : length waiting ≡ IDENTITIES
-  pub relied_size : length relied ≡ IDENTITIES
-  pub chains : Chains serving ls provider first next
-  pub counted : Counted waiting ls relied
-  pub from_first : (c : ℕ) → waits waiting c ≡ true → waits serving c ≡ true
-  pub here : waits waiting id ≡ true
+  pub size : length u.waiting ≡ IDENTITIES
+  pub relied_size : length u.relied ≡ IDENTITIES
+  pub counted : Counted u.waiting ls u.relied
+  pub chains : Chains ls u.first u.next
 
--- for a column of what waits and links that these columns were made of
-abbrev pub Usable : List ℕ → List ℕ → List ℕ → List ℕ → ℕ → Type 0
-Usable provider first next relied id = (waiting : List Bool) × (serving : List Bool) × (ls : List Link) × Using waiting serving ls provider first next relied id
-
--- its links count no more; below r none became free that was not
-pub record Freed (waiting : List Bool) (ls : List Link) (relied after : List ℕ) (id r : ℕ) : Type 0 where
-  pub size : length after ≡ IDENTITIES
-  pub counted : Counted (set waiting id false) ls after
+-- one component waits no more; below r none became free that was not
+pub record Freed (ls : List Link) (u v : Uses) (id r : ℕ) : Type 0 where
+  pub tracks : Tracks ls v
+  pub waiting : v.waiting ≡ set u.waiting id false
   pub next : r ≤ id + 1
-  pub none_below : (j : ℕ) → j < r → get_or after j 0 ≡ 0 → get_or relied j 0 ≡ 0
+  pub none_below : (j : ℕ) → j < r → get_or v.relied j 0 ≡ 0 → get_or u.relied j 0 ≡ 0

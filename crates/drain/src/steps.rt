@@ -1,80 +1,68 @@
 // The steps of a drain, put behind each other in one array.
-ghost use Rattle.std.specs.Prelude.{◌≡◌, ◌++◌, map, ◌+◌, ◌*◌, ◌≤◌, take};
-ghost use Rattle.model.specs.Drain.{blank_step, cleanups, step_of};
-ghost use Rattle.model.specs.Lists.{padded};
+ghost use Rattle.std.specs.Prelude.{◌≡◌, ◌++◌, ◌∷◌, [], List, length, map, ◌+◌, ◌*◌, ◌<◌, ◌≤◌, take};
+ghost use Rattle.drain.specs.Drains.{as_drain};
+ghost use Rattle.model.specs.Drain.{cleanups, step_of};
+ghost use Rattle.model.specs.declared.Step.{Step};
 ghost use Rattle.sizes.specs.Sizes.{IDENTITIES, STEPS};
 
-use model::{Answer, Step, StepCommand};
+use model::{Step, StepCommand};
 use results::Identities;
 use sizes::STEPS;
 
-// What drain answers: the steps and how many, blank past the count. On a refusal there are none.
+// What drain answers: the steps and how many, blank past the count.
 #[derive(Clone, Copy)]
 pub struct Drain {
-    pub answer: Answer,
     pub steps: [Step; STEPS],
     pub count: usize,
 }
 
-// The step that stands past the count.
-pub(crate) fn blank_step() -> Step
-    ensures { result ≡ blank_step }
+#[tactic(auto, unfolding(model::specs::Lists::padded))]
+pub(crate) fn no_steps() -> Drain
+    ensures { result ≡ as_drain [] }
 {
-    Step {
+    let blank = Step {
         command: StepCommand::Leave,
         id: 0,
+    };
+    Drain {
+        steps: [blank; STEPS],
+        count: 0,
     }
 }
 
-// The steps below the count, then this command for each identity.
-pub(crate) fn append(
-    mut steps: [Step; STEPS],
-    count: usize,
-    command: StepCommand,
-    ids: Identities,
-) -> [Step; STEPS]
-    requires { (ids.count ≤ IDENTITIES) × (count + ids.count ≤ STEPS) × (steps ≡ padded STEPS blank_step (take count steps)) }
-    ensures { result ≡ padded STEPS blank_step (take count steps ++ map (step_of command) (take ids.count ids.ids)) }
-{
-    let listed = ids.ids;
-    let end = ids.count;
-    let mut i = 0;
-    while i < end {
-        let id = listed[i];
-        steps[count + i] = Step {
-            command: command,
-            id: id,
-        };
-        i += 1;
+impl Drain {
+    // One step more.
+    #[tactic(auto, using(crate::proofs::Laws::Steps::push_laid))]
+    fn push(&mut self, command: StepCommand, id: usize)
+        requires { self.old.count < STEPS }
+        ensures counted { self.new.count ≡ self.old.count + 1 }
+        ensures steps { (ss : List Step) → self.old ≡ as_drain ss → self.new ≡ as_drain (ss ++ (step_of command id ∷ [])) }
+    {
+        self.steps[self.count] = Step { command, id };
+        self.count += 1;
     }
-    steps
-}
 
-// The steps below the count, then begin_cleanup and finish_cleanup for each identity.
-pub(crate) fn append_cleanups(
-    mut steps: [Step; STEPS],
-    count: usize,
-    ids: Identities,
-) -> [Step; STEPS]
-    requires { (ids.count ≤ IDENTITIES) × (count + 2 * ids.count ≤ STEPS) × (steps ≡ padded STEPS blank_step (take count steps)) }
-    ensures { result ≡ padded STEPS blank_step (take count steps ++ cleanups (take ids.count ids.ids)) }
-{
-    let listed = ids.ids;
-    let end = ids.count;
-    let mut at = count;
-    let mut i = 0;
-    while i < end {
-        let id = listed[i];
-        steps[at] = Step {
-            command: StepCommand::BeginCleanup,
-            id: id,
-        };
-        steps[at + 1] = Step {
-            command: StepCommand::FinishCleanup,
-            id: id,
-        };
-        at += 2;
-        i += 1;
+    // This command for each identity.
+    pub(crate) fn append(&mut self, command: StepCommand, ids: &Identities)
+        requires ids { ids.now.count ≤ IDENTITIES }
+        requires room { self.old.count + ids.now.count ≤ STEPS }
+        ensures counted { self.new.count ≡ self.old.count + ids.now.count }
+        ensures steps { (ss : List Step) → self.old ≡ as_drain ss → self.new ≡ as_drain (ss ++ map (step_of command) (take ids.now.count ids.now.ids)) }
+    {
+        for id in &ids.ids[..ids.count] {
+            self.push(command, *id);
+        }
     }
-    steps
+
+    // begin_cleanup and finish_cleanup for each identity.
+    pub(crate) fn append_cleanups(&mut self, ids: &Identities)
+        requires ids { ids.now.count ≤ IDENTITIES }
+        requires room { self.old.count + 2 * ids.now.count ≤ STEPS }
+        ensures { (ss : List Step) → self.old ≡ as_drain ss → self.new ≡ as_drain (ss ++ cleanups (take ids.now.count ids.now.ids)) }
+    {
+        for id in &ids.ids[..ids.count] {
+            self.push(StepCommand::BeginCleanup, *id);
+            self.push(StepCommand::FinishCleanup, *id);
+        }
+    }
 }

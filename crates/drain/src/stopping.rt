@@ -1,10 +1,12 @@
 // The tables, read and written for the drain as a whole.
-ghost use Rattle.std.specs.Prelude.{◌≡◌, map};
+ghost use Rattle.std.specs.Prelude.{◌≡◌, ◌≤◌, length, map};
 ghost use Rattle.drain.specs.Drains.{flags_of};
+ghost use Rattle.drain.specs.Order.{held};
 ghost use Rattle.model.specs.Records.{dead_link, restored_node};
+ghost use Rattle.sizes.specs.Sizes.{IDENTITIES};
 
-use model::{Link, Node};
-use sizes::{IDENTITIES, LINKS};
+use model::{Link, Node, Phase};
+use sizes::IDENTITIES;
 
 // Which components must leave, which are restoring, and which are serving.
 #[derive(Clone, Copy)]
@@ -14,49 +16,57 @@ pub(crate) struct Flags {
     pub serving: [bool; IDENTITIES],
 }
 
-pub(crate) fn flags_of(nodes: [Node; IDENTITIES]) -> Flags
-    ensures { result ≡ flags_of nodes }
+// One pass over the nodes. Their array's length is known here, and not where they are a field behind a reference: hence the second clause.
+#[tactic(auto, using(scans::proofs::Slices::fill_start, scans::proofs::Slices::fill_next, scans::proofs::Slices::fill_end))]
+pub(crate) fn flags_of(nodes: &[Node; IDENTITIES]) -> Flags
+    ensures flags { result ≡ flags_of nodes.now }
+    ensures sized { length nodes.now ≡ IDENTITIES }
 {
     let mut leaving = [false; IDENTITIES];
     let mut restoring = [false; IDENTITIES];
     let mut serving = [false; IDENTITIES];
-    let mut i = 0;
-    while i < IDENTITIES {
-        let node = nodes[i];
-        leaving[i] = records::must_leave(node);
-        restoring[i] = records::is_restoring(node);
-        serving[i] = records::is_serving(node);
-        i += 1;
+    for (i, node) in nodes.iter().enumerate() {
+        leaving[i] = records::must_leave(*node);
+        restoring[i] = records::is_restoring(*node);
+        serving[i] = records::is_serving(*node);
     }
     Flags {
-        leaving: leaving,
-        restoring: restoring,
-        serving: serving,
+        leaving,
+        restoring,
+        serving,
     }
+}
+
+// How many components these are.
+#[tactic(auto, using(crate::proofs::Laws::Order::held_more))]
+pub(crate) fn count(flags: &[bool; IDENTITIES]) -> usize
+    ensures held { result ≡ held flags.now }
+    ensures most { result ≤ IDENTITIES }
+{
+    let mut count = 0;
+    for flag in flags {
+        count += usize::from(*flag);
+    }
+    count
 }
 
 // Every node Inactive and not restoring.
-pub(crate) fn restored_nodes(mut nodes: [Node; IDENTITIES]) -> [Node; IDENTITIES]
-    ensures { result ≡ map restored_node nodes }
+#[tactic(auto, using(crate::proofs::Laws::Edits::in_place))]
+pub(crate) fn restore_nodes(nodes: &mut [Node])
+    ensures { nodes.new ≡ map restored_node nodes.old }
 {
-    let mut i = 0;
-    while i < IDENTITIES {
-        let node = nodes[i];
-        nodes[i] = records::restored_node(node);
-        i += 1;
+    for node in nodes.iter_mut() {
+        node.phase = Phase::Inactive;
+        node.restoring = false;
     }
-    nodes
 }
 
 // Every link dead.
-pub(crate) fn dead_links(mut links: [Link; LINKS]) -> [Link; LINKS]
-    ensures { result ≡ map dead_link links }
+#[tactic(auto, using(crate::proofs::Laws::Edits::in_place))]
+pub(crate) fn kill_links(links: &mut [Link])
+    ensures { links.new ≡ map dead_link links.old }
 {
-    let mut i = 0;
-    while i < LINKS {
-        let l = links[i];
-        links[i] = records::dead_link(l);
-        i += 1;
+    for link in links.iter_mut() {
+        link.live = false;
     }
-    links
 }

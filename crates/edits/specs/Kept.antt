@@ -1,27 +1,21 @@
--- What the edits leave: a table compacted, and how many records were kept.
-use Rattle.std.specs.Prelude.{Bool, not, true, List, ℕ}
-use Rattle.loops.specs.InPlace.{compaction}
-use Rattle.edits.specs.declared.KeptDeclarations.{KeptDeclarations}
-use Rattle.edits.specs.declared.KeptLinks.{KeptLinks}
-use Rattle.edits.specs.declared.Rule.{Rule}
-use Rattle.model.specs.declared.records.Declaration.{Declaration}
-use Rattle.model.specs.declared.records.Link.{Link}
-use Rattle.model.specs.Interface.{remains}
-use Rattle.model.specs.Records.{blank_declaration, blank_link, is_live, owner_in}
-use Rattle.model.specs.Soundness.{is_declaration}
-use Rattle.loops.specs.Columns.{flag}
-use Rattle.sizes.specs.Sizes.{IDENTITIES}
+-- What a compaction leaves: the records that a test keeps, then blanks, and how many were kept.
+use Rattle.std.specs.Prelude.{◌≡◌, ◌||◌, Bool, false, List, [], ◌∷◌, ℕ, eqb, get_or, length}
+use Rattle.model.specs.Lists.{keep, padded}
 
--- the declarations that pass, of those below the count
-abbrev pub kept_declarations : (Declaration → Bool) → ℕ → List Declaration → KeptDeclarations
-kept_declarations p = compaction p blank_declaration (λ ds n. record { declarations = ds; count = n })
+-- a test answers p: whatever it may answer to a record, p says the same
+abbrev pub Answers : {A : Type 0} → (A → Bool → Type 0) → (A → Bool) → Type 0
+Answers {A} post p = (x : A) (r : Bool) → post x r → r ≡ p x
 
--- the live links, of those below the count
-abbrev pub kept_links : ℕ → List Link → KeptLinks
-kept_links = compaction is_live blank_link (λ ls n. record { links = ls; count = n })
+-- the records of old that p keeps stand first in new, in order, and behind them blanks; n is how many they are
+pub record Retained {A : Type 0} (p : A → Bool) (d : A) (old new : List A) (n : ℕ) : Type 0 where
+  pub entries : new ≡ padded (length old) d (keep p old)
+  pub counted : n ≡ length (keep p old)
 
--- what a rule keeps; a table of yes/nos tells which owners are present
-abbrev pub keeping : List Bool → Rule → Declaration → Bool
-keeping present Rule.Owned d = flag IDENTITIES present (owner_in d)
-keeping present (Rule.Released id port) d = not (is_declaration id port true d)
-keeping present (Rule.Configured id) d = remains id d
+-- whether a place is among these
+abbrev pub among : List ℕ → ℕ → Bool
+among [] j = false
+among (i ∷ is) j = eqb i j || among is j
+
+-- what stands at other places than these is the same
+abbrev pub SameBeside : {A : Type 0} → List ℕ → List A → List A → Type 0
+SameBeside {A} is xs ys = (j : ℕ) (d : A) → among is j ≡ false → get_or ys j d ≡ get_or xs j d

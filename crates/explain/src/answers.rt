@@ -1,55 +1,42 @@
 // Refusals with the test that gave them.
-ghost use Rattle.std.specs.Prelude.{[], ◌∷◌, ◌≡◌};
-ghost use Rattle.explain.specs.Explanations.{refusal};
-ghost use Rattle.model.specs.Explanation.{is_witness};
-ghost use Rattle.model.specs.Explanation.{explain as explainRow};
+ghost use Rattle.std.specs.Prelude.{◌≡◌};
+ghost use Rattle.explain.specs.Explanations.{found_if, refusal, refused_by};
 ghost use Rattle.model.specs.Explanation.{number as number_of};
 
-use model::{Error, Explanation, Measure, Measured, Place, Refusal, Witness};
+use model::{Error, Measure, Measured, Place, Refusal, Witness};
 
-pub(crate) fn refused(error: Error, place: Place, test: usize, witness: Witness) -> Explanation
-    ensures { result ≡ Explanation.Refused (refusal error place test witness) }
+pub(crate) fn refusal(error: Error, place: Place, test: usize, witness: Witness) -> Refusal
+    ensures { result ≡ refusal error place test witness }
 {
-    Explanation::Refused(Refusal {
-        error: error,
-        place: place,
-        test: test,
-        witness: witness,
-    })
-}
-
-// Whether a test found something.
-pub(crate) fn found(witness: Witness) -> bool
-    ensures { result ≡ is_witness witness }
-{
-    match witness {
-        Witness::Nothing => false,
-        Witness::Component(_) => true,
-        Witness::Dependency(_) => true,
-        Witness::Link(_) => true,
-        Witness::Child(_) => true,
-        Witness::Clash(_) => true,
-        Witness::Repeated(_) => true,
-        Witness::Number(_) => true,
+    Refusal {
+        error,
+        place,
+        test,
+        witness,
     }
 }
 
-// The last test of a row, which refuses if it found something.
-pub(crate) fn refused_if(error: Error, place: Place, test: usize, witness: Witness) -> Explanation
-    ensures { result ≡ explainRow ((is_witness witness, refusal error place test witness) ∷ []) }
+// One test of a row, by what it found: it refuses where that is something.
+pub(crate) fn refused_if(
+    error: Error,
+    place: Place,
+    test: usize,
+    found: Option<Witness>,
+) -> Result<(), Refusal>
+    ensures { result ≡ refused_by error place test found }
 {
-    if !found(witness) {
-        return Explanation::Accepted;
+    match found {
+        Some(witness) => Err(refusal(error, place, test, witness)),
+        None => Ok(()),
     }
-    refused(error, place, test, witness)
 }
 
-// What was compared with its limit.
-pub(crate) fn number(measure: Measure, number: usize) -> Witness
-    ensures { result ≡ number_of measure number }
+// What was compared with its limit, where it is past it.
+pub(crate) fn number_if(past: bool, measure: Measure, number: usize) -> Option<Witness>
+    ensures { result ≡ found_if past (number_of measure number) }
 {
-    Witness::Number(Measured {
-        measure: measure,
+    past.then_some(Witness::Number(Measured {
+        measure,
         number: number as u64,
-    })
+    }))
 }

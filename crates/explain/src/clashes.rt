@@ -1,91 +1,83 @@
 // The first repeat or clash of a list, in the order of lib.rs's scan.
-ghost use Rattle.std.specs.Prelude.{[], ◌≡◌, take};
-ghost use Rattle.explain.specs.Nodes.{nobody};
-ghost use Rattle.loops.specs.Columns.{flag};
-ghost use Rattle.model.specs.Explanation.{clash_from, repeat_named};
-ghost use Rattle.model.specs.Explanation.{clash_of as clashBy};
-ghost use Rattle.model.specs.Interface.{listed};
-ghost use Rattle.model.specs.Resolution.{look_up};
-ghost use Rattle.sizes.specs.Sizes.{IDENTITIES};
+ghost use Rattle.std.specs.Prelude.{[], ◌≡◌, length};
+ghost use Rattle.explain.specs.Explanations.{found_if, witnessed, tables_in};
+ghost use Rattle.model.specs.Explanation.{clash_from, clash_of, repeat_named, witness};
+ghost use Rattle.model.specs.Explanation.{repeat_at as repeat_by};
+ghost use Rattle.model.specs.Lists.{any, find_at};
+ghost use Rattle.model.specs.Records.{same_port};
+ghost use Rattle.model.specs.Resolution.{offers, resolve};
+ghost use Rattle.model.specs.Tables.{present};
+ghost use Rattle.model.specs.declared.explanation.ListKind.{ListKind};
 
-use loops::at_most;
-use model::{Declaration, ListKind, Port, PortList, Repeat, Resolution, Witness};
-use sizes::{DECLARATIONS, IDENTITIES};
+use crate::entry::Sound;
+use model::{Declaration, ListKind, Port, Repeat, Witness};
 
-// A port with the present owner that provides it, by what looking it up answered.
-pub(crate) fn clash_of(port: Port, found: Resolution) -> Witness
-    ensures { result ≡ clashBy port found }
+// A port behind these ones of its list, if it is one of them.
+#[tactic(auto, using(crate::proofs::Laws::Found::searching))]
+fn repeat_of(list: ListKind, ports: &[Port], port: Port) -> Option<Witness>
+    ensures { result ≡ found_if (any (same_port port) ports.now) (witness (repeat_by list (length ports.now)) (find_at (same_port port) 0 ports.now)) }
 {
-    match found {
-        Resolution::Provider(owner) => Witness::Clash(records::binding_of(port, owner)),
-        Resolution::NotActive(owner) => Witness::Clash(records::binding_of(port, owner)),
-        Resolution::NoOwner => Witness::Nothing,
+    for (earlier, q) in ports.iter().enumerate() {
+        if port == *q {
+            return Some(Witness::Repeated(Repeat {
+                list,
+                earlier,
+                later: ports.len(),
+            }));
+        }
     }
+    None
+}
+
+// Whether this is a provision of the port by a present owner.
+#[tactic(auto, unfolding(model::specs::Resolution::offers, model::specs::Tables::present))]
+fn offers(sound: Sound, port: Port, d: Declaration) -> bool
+    ensures { result ≡ offers (present (tables_in sound.entry.kernel.now).nodes) port d }
+{
+    d.provides && d.port == port && sound.node(records::owner_in(d)).present
+}
+
+// A port with the first present owner that provides it; whether that is Active is not asked.
+#[tactic(auto, using(crate::proofs::Laws::Scans::owners))]
+pub(crate) fn owner_of(sound: Sound, port: Port) -> Option<Witness>
+    ensures { result ≡ witnessed (clash_of port (resolve (tables_in sound.entry.kernel.now) port)) }
+{
+    for d in sound.declarations() {
+        if offers(sound, port, *d) {
+            return Some(Witness::Clash(records::binding_of(port, records::owner_in(*d))));
+        }
+    }
+    None
 }
 
 // The first repeat of a list of dependencies.
-pub(crate) fn repeat_in(list: PortList) -> Witness
-    ensures { result ≡ repeat_named (listed list) }
+#[tactic(auto, using(crate::proofs::Laws::Scans::scanning))]
+pub(crate) fn repeat_in(ports: &[Port]) -> Option<Witness>
+    ensures { result ≡ witnessed (repeat_named ports.now) }
 {
-    let ports = list.ports;
-    let end = at_most(list.count, 32);
-    let mut i = 0;
-    while i < end {
-        let p = ports[i];
-        let mut j = 0;
-        while j < i {
-            let q = ports[j];
-            if records::same_port(p, q) {
-                return Witness::Repeated(Repeat {
-                    list: ListKind::Dependencies,
-                    earlier: j,
-                    later: i,
-                });
-            }
-            j += 1;
+    for (later, port) in ports.iter().enumerate() {
+        let repeat = repeat_of(ListKind::Dependencies, &ports[..later], *port);
+        if repeat.is_some() {
+            return repeat;
         }
-        i += 1;
     }
-    Witness::Nothing
+    None
 }
 
-// The first repeat or clash of a list of provisions. Port by port: the earlier places of the list, then the declarations below the count; present tells
-// who is, and whether an owner is Active is not asked.
-pub(crate) fn clash_in(
-    list: PortList,
-    declarations: [Declaration; DECLARATIONS],
-    declared: usize,
-    present: [bool; IDENTITIES],
-) -> Witness
-    ensures { result ≡ clash_from ListKind.Provisions (look_up (flag IDENTITIES present) nobody (take declared declarations)) [] (listed list) }
+// The first repeat or clash of a list of provisions. Port by port: the earlier places of the list, then the declarations.
+#[tactic(auto, using(crate::proofs::Laws::Scans::scanning))]
+pub(crate) fn clash_in(sound: Sound, ports: &[Port]) -> Option<Witness>
+    ensures { result ≡ witnessed (clash_from ListKind.Provisions (resolve (tables_in sound.entry.kernel.now)) [] ports.now) }
 {
-    let ports = list.ports;
-    let end = at_most(list.count, 32);
-    let table = at_most(declared, DECLARATIONS);
-    let mut i = 0;
-    while i < end {
-        let p = ports[i];
-        let mut j = 0;
-        while j < i {
-            let q = ports[j];
-            if records::same_port(p, q) {
-                return Witness::Repeated(Repeat {
-                    list: ListKind::Provisions,
-                    earlier: j,
-                    later: i,
-                });
-            }
-            j += 1;
+    for (later, port) in ports.iter().enumerate() {
+        let repeat = repeat_of(ListKind::Provisions, &ports[..later], *port);
+        if repeat.is_some() {
+            return repeat;
         }
-        let mut k = 0;
-        while k < table {
-            let d = declarations[k];
-            if scans::declarations::offers(&present, p, d) {
-                return Witness::Clash(records::binding_of(p, records::owner_in(d)));
-            }
-            k += 1;
+        let clash = owner_of(sound, *port);
+        if clash.is_some() {
+            return clash;
         }
-        i += 1;
     }
-    Witness::Nothing
+    None
 }

@@ -2,85 +2,87 @@
 #![tactic(auto)]
 
 ghost use Rattle.std.specs.Prelude.{◌≡◌};
-ghost use Rattle.explain.specs.Explanations.{command_of, explanation_of};
+ghost use Rattle.explain.specs.Explanations.{command_of, explanation_of, tables_in};
 ghost use Rattle.model.specs.Commands.{Command};
+ghost use Rattle.model.specs.Explanation.{explained};
+ghost use Rattle.sizes.specs.Sizes.{sizes};
 
-use crate::answers::refused;
+use crate::answers::refusal;
+use crate::entry::Sound;
 use kernel::Kernel;
-use model::{Error, Explanation, Parent, Place, PortList, Row, Witness};
+use model::{Error, Parent, Place, PortList, Refusal, Witness};
 
 mod answers;
 pub mod calls;
 mod clashes;
+mod entry;
 mod insertion;
 mod interface;
 mod lifecycle;
 mod nodes;
 mod witnesses;
 
-pub use calls::{Call, CommandKind};
+pub use calls::Call;
 
 // What the command would answer on the kernel: accepted, or the refusal with the first test that applies. Nothing is changed.
-pub fn explain(kernel: Kernel, call: Call) -> Explanation
-    ensures { result ≡ explanation_of kernel (command_of call) }
+#[tactic(auto, using(crate::proofs::Laws::Entry::asked))]
+pub fn explain(kernel: &Kernel, call: Call) -> Result<(), Refusal>
+    ensures { result ≡ explanation_of kernel.now (command_of call) }
 {
     if !kernel.sound() {
-        return refused(Error::Damaged, Place::Entry, 1, Witness::Nothing);
+        return Err(refusal(Error::Damaged, Place::Entry, 1, Witness::Nothing));
     }
-    let id = call.id;
-    let port = call.port;
-    let parent = call.parent;
-    let dependencies = call.dependencies;
-    let provisions = call.provisions;
-    let kind = call.kind;
-    match kind {
-        CommandKind::Insert => insertion::insert(kernel, parent, dependencies, provisions),
-        CommandKind::DeclareProvision => interface::declare_provision(kernel, id, port),
-        CommandKind::ReleaseProvision => interface::release_provision(kernel, id, port),
-        CommandKind::ConfigurePendingDependencies => {
-            interface::configure(kernel, id, dependencies)
-        }
-        CommandKind::Begin => lifecycle::begin(kernel, id),
-        CommandKind::Finish => lifecycle::finish(kernel, id),
-        CommandKind::Leave => nodes::tested(kernel, id, Row::Running, Place::Leave),
-        CommandKind::LeaveIfChanged => lifecycle::leave_if_changed(kernel, id),
-        CommandKind::Retire => nodes::tested(kernel, id, Row::Present, Place::Identity),
-        CommandKind::BeginCleanup => lifecycle::begin_cleanup(kernel, id),
-        CommandKind::FinishCleanup => {
-            nodes::tested(kernel, id, Row::Restoring, Place::FinishCleanup)
-        }
-        CommandKind::Remove => lifecycle::remove(kernel, id),
-        CommandKind::CompactBindings => Explanation::Accepted,
-        CommandKind::CompactDeclarations => Explanation::Accepted,
-    }
+    row(Sound { kernel }, call)
 }
 
 // What check_insert would answer: insert's rows.
 pub fn explain_check_insert(
-    kernel: Kernel,
+    kernel: &Kernel,
     parent: Parent,
     dependencies: PortList,
     provisions: PortList,
-) -> Explanation
-    ensures { result ≡ explanation_of kernel (Command.insert parent dependencies provisions) }
+) -> Result<(), Refusal>
+    ensures { result ≡ explanation_of kernel.now (Command.insert parent dependencies provisions) }
 {
-    let port = records::blank_port();
-    let call = Call {
-        kind: CommandKind::Insert,
-        id: 0,
-        port: port,
-        parent: parent,
-        dependencies: dependencies,
-        provisions: provisions,
+    let call = Call::Insert {
+        parent,
+        dependencies,
+        provisions,
     };
     explain(kernel, call)
 }
 
 // What check_iteration would answer: finish's row.
-pub fn explain_check_iteration(kernel: Kernel, id: usize) -> Explanation
-    ensures { result ≡ explanation_of kernel (Command.finish id) }
+pub fn explain_check_iteration(kernel: &Kernel, id: usize) -> Result<(), Refusal>
+    ensures { result ≡ explanation_of kernel.now (Command.finish id) }
 {
-    let mut call = calls::of_kind(CommandKind::Finish);
-    call.id = id;
-    explain(kernel, call)
+    explain(kernel, Call::Finish { id })
+}
+
+// The command's row.
+#[tactic(auto, unfolding(model::specs::Explanation::explained, model::specs::Explanation::explain))]
+fn row(sound: Sound, call: Call) -> Result<(), Refusal>
+    ensures { result ≡ explained sizes (tables_in sound.entry.kernel.now) (command_of call) }
+{
+    match call {
+        Call::Insert {
+            parent,
+            dependencies,
+            provisions,
+        } => insertion::insert(sound, parent, dependencies, provisions),
+        Call::DeclareProvision { id, port } => interface::declare_provision(sound, id, port),
+        Call::ReleaseProvision { id, port } => interface::release_provision(sound, id, port),
+        Call::ConfigurePendingDependencies { id, dependencies } => {
+            interface::configure(sound, id, dependencies)
+        }
+        Call::Begin { id } => lifecycle::begin(sound, id),
+        Call::Finish { id } => lifecycle::finish(sound, id),
+        Call::Leave { id } => lifecycle::leave(sound, id),
+        Call::LeaveIfChanged { id } => lifecycle::leave_if_changed(sound, id),
+        Call::Retire { id } => lifecycle::retire(sound, id),
+        Call::BeginCleanup { id } => lifecycle::begin_cleanup(sound, id),
+        Call::FinishCleanup { id } => lifecycle::finish_cleanup(sound, id),
+        Call::Remove { id } => lifecycle::remove(sound, id),
+        Call::CompactBindings | Call::CompactDeclarations => Ok(()),
+    }
 }

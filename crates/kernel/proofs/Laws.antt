@@ -1,8 +1,13 @@
--- What the methods' proofs cite.
-pub mod Lengths
-pub mod Outcomes
-pub mod Observers
-pub mod Rows
-pub mod Targets
-pub mod Stored
+-- What the functions' proofs cite, and those of the crates above.
+pub mod Arrays
 pub mod Edits
+pub mod Entered
+pub mod Handed
+pub mod Insertion
+pub mod Interface
+pub mod Lifecycle
+pub mod Links
+pub mod Ports
+pub mod Rows
+pub mod Stored
+pub mod Targets

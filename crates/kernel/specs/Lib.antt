@@ -1,4 +1,5 @@
 pub mod Fields
 pub mod Outcomes
 pub mod Reached
+pub mod Links
 pub mod Ports

@@ -1,86 +1,103 @@
 // Cleanup and removal.
-ghost use Rattle.std.specs.Prelude.{◌≡◌, ◌++◌};
-ghost use Rattle.kernel.specs.Outcomes.{Returns, answer_of};
-ghost use Rattle.model.specs.Commands.{Command};
-ghost use Rattle.model.specs.Rows.{changed_node, node_tests};
-ghost use Rattle.model.specs.Tables.{node_at};
-ghost use Rattle.model.specs.UpdateNode.{update_tests};
+#![tactic(auto, using(crate::proofs::Laws::Handed::answer_numbered))]
 
-use crate::component::change;
+ghost use Rattle.std.specs.Prelude.{◌≡◌, ◌≤◌, OnErr};
+ghost use Rattle.kernel.specs.Fields.{layout_of};
+ghost use Rattle.kernel.specs.Outcomes.{Does, Returns};
+ghost use Rattle.model.specs.Answers.{checked};
+ghost use Rattle.model.specs.Commands.{Command};
+ghost use Rattle.model.specs.Layouts.{tables_of};
+ghost use Rattle.model.specs.UpdateNode.{update_tests};
+ghost use Rattle.sizes.specs.Sizes.{IDENTITIES, LINKS};
+
 use crate::{Kernel, Outcome};
-use model::{Answer, Error, Row, Transition};
+use model::{Error, Node};
+use records::checks::{check_restoring, check_retired, check_unloading};
 
 impl Kernel {
     // begin_cleanup: an Unloading component that no live link has as provider starts restoring.
-    pub fn begin_cleanup(mut self, id: usize) -> Outcome
+    pub fn begin_cleanup(mut self, id: usize) -> Outcome<()>
         ensures { Returns self (Command.begin_cleanup id) result }
     {
-        let answer = self.check_update(id, Row::Unloading, Transition::BeginCleanup);
-        if let Answer::Done = answer {
-            let nodes = self.nodes;
-            let changed = change(nodes, id, Transition::BeginCleanup);
-            self.nodes = changed;
-        }
+        let answer = self.begin_cleanup_in(id);
         Outcome {
             kernel: self,
-            answer: answer,
+            answer,
         }
+    }
+
+    #[tactic(auto, using(crate::proofs::Laws::Lifecycle::begin_cleanup_laws), unfolding(model::specs::Refusals::first))]
+    fn begin_cleanup_in(&mut self, id: usize) -> Result<(), Error>
+        ensures does { Does self.old (Command.begin_cleanup id) self.new result }
+        ensures refused { OnErr result (self.new ≡ self.old) }
+    {
+        let node = self.entry(id)?;
+        check_unloading(node)?;
+        let node = records::restoring_node(node);
+        self.check_update(id, node)?;
+        self.nodes[id] = node;
+        Ok(())
     }
 
     // finish_cleanup: a restoring component becomes Inactive, and its links dead.
-    pub fn finish_cleanup(mut self, id: usize) -> Outcome
+    pub fn finish_cleanup(mut self, id: usize) -> Outcome<()>
         ensures { Returns self (Command.finish_cleanup id) result }
     {
-        let answer = self.check_node(id, Row::Restoring);
-        if let Answer::Done = answer {
-            let links = self.links;
-            let linked = self.link_count;
-            let dead = edits::dead_links(links, linked, id);
-            self.links = dead;
-            let nodes = self.nodes;
-            let changed = change(nodes, id, Transition::FinishCleanup);
-            self.nodes = changed;
-        }
+        let answer = self.finish_cleanup_in(id);
         Outcome {
             kernel: self,
-            answer: answer,
+            answer,
         }
+    }
+
+    #[tactic(auto, using(crate::proofs::Laws::Lifecycle::finish_cleanup_laws), unfolding(model::specs::Refusals::first))]
+    fn finish_cleanup_in(&mut self, id: usize) -> Result<(), Error>
+        ensures does { Does self.old (Command.finish_cleanup id) self.new result }
+        ensures refused { OnErr result (self.new ≡ self.old) }
+    {
+        let node = self.entry(id)?;
+        check_restoring(node)?;
+        // lent by a reference of its own: of a part of self.links lent at once nothing would be known
+        let links = &mut self.links;
+        let (links, _) = links.split_at_mut(self.link_count);
+        edits::dead_links(links, id);
+        self.nodes[id] = records::restored_node(node);
+        Ok(())
     }
 
     // remove: a retired and Inactive component without a present child is no longer present.
-    pub fn remove(mut self, id: usize) -> Outcome
+    pub fn remove(mut self, id: usize) -> Outcome<()>
         ensures { Returns self (Command.remove id) result }
     {
-        let answer = self.check_update(id, Row::Retired, Transition::Remove);
-        if let Answer::Done = answer {
-            let nodes = self.nodes;
-            let changed = change(nodes, id, Transition::Remove);
-            self.nodes = changed;
-        }
+        let answer = self.remove_in(id);
         Outcome {
             kernel: self,
-            answer: answer,
+            answer,
         }
     }
 
-    // What a command answers that asks update_node before it writes the node: its tests of the node, then update_node's.
-    fn check_update(self, id: usize, row: Row, transition: Transition) -> Answer
-        ensures { result ≡ answer_of self (λ T. node_tests row (node_at T.nodes id) ++ update_tests T id (changed_node transition (node_at T.nodes id))) }
+    #[tactic(auto, using(crate::proofs::Laws::Lifecycle::remove_laws))]
+    fn remove_in(&mut self, id: usize) -> Result<(), Error>
+        ensures does { Does self.old (Command.remove id) self.new result }
+        ensures refused { OnErr result (self.new ≡ self.old) }
     {
-        let entry = self.entry(id);
-        if !entry.sound {
-            return Answer::Refused(Error::Damaged);
-        }
-        let node = entry.node;
-        let checked = records::check(row, node);
-        if let Answer::Refused(error) = checked {
-            return Answer::Refused(error);
-        }
-        let new = records::changed(transition, node);
-        let nodes = self.nodes;
-        let issued = self.node_count;
-        let links = self.links;
-        let linked = self.link_count;
-        scans::update_node(nodes, issued, links, linked, id, new)
+        let node = self.entry(id)?;
+        check_retired(node)?;
+        let node = records::absent_node(node);
+        self.check_update(id, node)?;
+        self.nodes[id] = node;
+        Ok(())
+    }
+
+    // What update_node answers of this node for this identity.
+    #[tactic(auto, unfolding(model::specs::Layouts::tables_of))]
+    fn check_update(&self, id: usize, node: Node) -> Result<(), Error>
+        requires nodes { self.now.node_count ≤ IDENTITIES }
+        requires links { self.now.link_count ≤ LINKS }
+        ensures { result ≡ checked (update_tests (tables_of (layout_of self.now)) id node) }
+    {
+        let nodes = &self.nodes[..self.node_count];
+        let links = &self.links[..self.link_count];
+        scans::update_node(nodes, links, id, node)
     }
 }

@@ -1,64 +1,59 @@
-// Compaction, each within its own table. Of an unsound kernel no record is read, so that it comes back as it is: with the edit behind a
-// test the compiler copies the table twice more.
-ghost use Rattle.std.specs.Prelude.{◌≡◌};
-ghost use Rattle.kernel.specs.Outcomes.{CompactionReturns};
+// Compaction, each within its own table.
+#![tactic(auto, using(crate::proofs::Laws::Handed::compaction_numbered))]
+
+ghost use Rattle.std.specs.Prelude.{◌≡◌, OnErr};
+ghost use Rattle.kernel.specs.Outcomes.{CompactionDoes, CompactionReturns};
 ghost use Rattle.model.specs.Commands.{Command};
 
-use crate::{CompactionOutcome, Kernel};
-use edits::Rule;
-use model::{Answer, Error};
-use sizes::IDENTITIES;
+use crate::{Kernel, Outcome};
+use model::Error;
+use records::refuse_if;
 
 impl Kernel {
     // compact_bindings: keeps the live links.
-    pub fn compact_bindings(mut self) -> CompactionOutcome
+    pub fn compact_bindings(mut self) -> Outcome<usize>
         ensures { CompactionReturns self Command.compact_bindings result }
     {
-        let mut answer = Answer::Refused(Error::Damaged);
-        let links = self.links;
-        let count = self.link_count;
-        let mut end = 0;
-        if self.sound() {
-            answer = Answer::Done;
-            end = count;
-        }
-        let kept = edits::live_links(links, end);
-        let live = kept.links;
-        let removed = end - kept.count;
-        self.links = live;
-        self.link_count = count - removed;
-        CompactionOutcome {
+        let answer = self.compact_bindings_in();
+        Outcome {
             kernel: self,
-            answer: answer,
-            removed: removed,
+            answer,
         }
     }
 
+    #[tactic(auto, using(crate::proofs::Laws::Arrays::sound_kernel, crate::proofs::Laws::Arrays::links_within), unfolding(model::specs::Refusals::first, model::specs::Kernels::asked, model::specs::Kernels::commanded, model::specs::Commands::step, model::specs::Commands::settle))]
+    fn compact_bindings_in(&mut self) -> Result<usize, Error>
+        ensures does { CompactionDoes self.old Command.compact_bindings self.new result }
+        ensures refused { OnErr result (self.new ≡ self.old) }
+    {
+        refuse_if(!self.sound(), Error::Damaged)?;
+        let count = self.link_count;
+        let links = &mut self.links;
+        let (links, _) = links.split_at_mut(count);
+        self.link_count = edits::retain(links, records::blank_link(), |l| l.live);
+        Ok(count - self.link_count)
+    }
+
     // compact_declarations: keeps the declarations of present owners.
-    pub fn compact_declarations(mut self) -> CompactionOutcome
+    pub fn compact_declarations(mut self) -> Outcome<usize>
         ensures { CompactionReturns self Command.compact_declarations result }
     {
-        let mut answer = Answer::Refused(Error::Damaged);
-        let nodes = self.nodes;
-        let declarations = self.declarations;
-        let count = self.declaration_count;
-        let mut present = [false; IDENTITIES];
-        let mut end = 0;
-        if self.sound() {
-            let flags = scans::node_flags(nodes);
-            present = flags.present;
-            answer = Answer::Done;
-            end = count;
-        }
-        let kept = edits::kept_declarations(declarations, end, present, Rule::Owned);
-        let owned = kept.declarations;
-        let removed = end - kept.count;
-        self.declarations = owned;
-        self.declaration_count = count - removed;
-        CompactionOutcome {
+        let answer = self.compact_declarations_in();
+        Outcome {
             kernel: self,
-            answer: answer,
-            removed: removed,
+            answer,
         }
+    }
+
+    #[tactic(auto, using(crate::proofs::Laws::Arrays::sound_kernel, crate::proofs::Laws::Arrays::declarations_within), unfolding(model::specs::Refusals::first, model::specs::Kernels::asked, model::specs::Kernels::commanded, model::specs::Commands::step, model::specs::Commands::settle))]
+    fn compact_declarations_in(&mut self) -> Result<usize, Error>
+        ensures does { CompactionDoes self.old Command.compact_declarations self.new result }
+        ensures refused { OnErr result (self.new ≡ self.old) }
+    {
+        refuse_if(!self.sound(), Error::Damaged)?;
+        let flags = scans::node_flags(&self.nodes);
+        let count = self.declaration_count;
+        self.keep_declarations(|d| scans::flag_at(&flags.present, records::owner_in(d)));
+        Ok(count - self.declaration_count)
     }
 }

@@ -1,7 +1,7 @@
 // The lifecycle kernel: its value, and a file of methods for each part of it.
 #![tactic(auto)]
 
-use model::{Answer, Declaration, InsertAnswer, Link, Node};
+use model::{Declaration, Error, Link, Node};
 use sizes::{DECLARATIONS, IDENTITIES, LINKS};
 
 mod cleanup;
@@ -26,24 +26,9 @@ pub struct Kernel {
     pub link_count: usize,
 }
 
-// What a command hands back.
+// What a command hands back: the kernel, and what it answers: done, with insert's identity or the count that a compaction removed, or a refusal.
 #[derive(Clone, Copy)]
-pub struct Outcome {
+pub struct Outcome<T> {
     pub kernel: Kernel,
-    pub answer: Answer,
-}
-
-// What insert hands back.
-#[derive(Clone, Copy)]
-pub struct InsertOutcome {
-    pub kernel: Kernel,
-    pub answer: InsertAnswer,
-}
-
-// What a compaction hands back; removed is 0 on a refusal.
-#[derive(Clone, Copy)]
-pub struct CompactionOutcome {
-    pub kernel: Kernel,
-    pub answer: Answer,
-    pub removed: usize,
+    pub answer: Result<T, Error>,
 }

@@ -1,190 +1,172 @@
-// Lifecycle.
-ghost use Rattle.std.specs.Prelude.{◌≡◌};
+// Lifecycle. Each command has an inner form, on the kernel in place, whose refusal leaves the kernel as it was.
+#![tactic(auto, using(crate::proofs::Laws::Handed::answer_numbered))]
+
+ghost use Rattle.std.specs.Prelude.{◌≡◌, ◌+◌, ◌<◌, ◌≤◌, OnErr, length};
 ghost use Rattle.kernel.specs.Fields.{ask};
-ghost use Rattle.kernel.specs.Outcomes.{Returns, answer_of};
+ghost use Rattle.kernel.specs.Links.{LinksBlankPast, ProvidersWithin, linked_to};
+ghost use Rattle.kernel.specs.Outcomes.{Does, Returns};
 ghost use Rattle.model.specs.Answers.{answer};
 ghost use Rattle.model.specs.Commands.{Command};
-ghost use Rattle.model.specs.Lifecycle.{check_iteration, leave_if_changed_tests};
+ghost use Rattle.model.specs.Lifecycle.{check_iteration};
 ghost use Rattle.model.specs.Refusals.{Reply};
+ghost use Rattle.sizes.specs.Sizes.{IDENTITIES, LINKS};
 
-use crate::component::change;
 use crate::{Kernel, Outcome};
-use model::{Answer, Error, Row, Transition};
+use model::{Binding, Error, Link, Node, Phase};
+use records::checks::{check_begin, check_loading, check_present, check_running};
+use records::refuse_if;
 use sizes::{IDENTITIES, LINKS};
 
 impl Kernel {
     // begin: an Inactive component with a target becomes Loading, and the target its live links, each with its provider's generation.
-    pub fn begin(mut self, id: usize) -> Outcome
+    pub fn begin(mut self, id: usize) -> Outcome<()>
         ensures { Returns self (Command.begin id) result }
     {
-        if !self.sound() {
-            return Outcome {
-                kernel: self,
-                answer: Answer::Refused(Error::Damaged),
-            };
-        }
-        if IDENTITIES <= id {
-            return Outcome {
-                kernel: self,
-                answer: Answer::Refused(Error::Unknown),
-            };
-        }
-        let mut nodes = self.nodes;
-        let node = nodes[id];
-        let checked = records::checks::check_begin(node);
-        if let Answer::Refused(error) = checked {
-            return Outcome {
-                kernel: self,
-                answer: Answer::Refused(error),
-            };
-        }
-        let declarations = self.declarations;
-        let count = self.declaration_count;
-        let target = scans::target_table(nodes, declarations, count, id);
-        if !target.there {
-            return Outcome {
-                kernel: self,
-                answer: Answer::Refused(Error::MissingDependency),
-            };
-        }
-        let more = target.count;
-        let linked = self.link_count;
-        if LINKS - linked < more {
-            return Outcome {
-                kernel: self,
-                answer: Answer::Refused(Error::Capacity),
-            };
-        }
-        let mut links = self.links;
-        let mut i = 0;
-        while i < more {
-            let b = target.bindings[i];
-            let p = b.provider;
-            let provider = nodes[p];
-            links[linked + i] = records::live_link(id, b, provider.generation);
-            i += 1;
-        }
-        self.links = links;
-        self.link_count = linked + more;
-        nodes[id] = records::started_node(node.generation + 1, node);
-        self.nodes = nodes;
+        let answer = self.begin_in(id);
         Outcome {
             kernel: self,
-            answer: Answer::Done,
+            answer,
         }
+    }
+
+    #[tactic(auto, using(crate::proofs::Laws::Lifecycle::begin_laws), unfolding(model::specs::Refusals::first))]
+    fn begin_in(&mut self, id: usize) -> Result<(), Error>
+        ensures does { Does self.old (Command.begin id) self.new result }
+        ensures refused { OnErr result (self.new ≡ self.old) }
+    {
+        let node = self.entry(id)?;
+        check_begin(node)?;
+        let declarations = &self.declarations[..self.declaration_count];
+        let target = scans::target_table(&self.nodes, declarations, id);
+        let target = target.map_err(|_| Error::MissingDependency)?;
+        refuse_if(LINKS - self.link_count < target.count, Error::Capacity)?;
+        let bindings = &target.bindings[..target.count];
+        self.link_count = append_links(&mut self.links, self.link_count, &self.nodes, id, bindings);
+        self.nodes[id] = records::started_node(node.generation + 1, node);
+        Ok(())
     }
 
     // check_iteration: whether a Loading component still has a target.
-    pub fn check_iteration(self, id: usize) -> Answer
-        ensures { result ≡ answer (ask self (Reply.refused Error.Damaged) (λ T. check_iteration T id)) }
+    #[tactic(auto, using(crate::proofs::Laws::Lifecycle::iteration_laws), unfolding(model::specs::Kernels::asked, model::specs::Refusals::first))]
+    pub fn check_iteration(&self, id: usize) -> Result<(), Error>
+        ensures { result ≡ answer (ask self.now (Reply.refused Error.Damaged) (λ T. check_iteration T id)) }
     {
-        if !self.sound() {
-            return Answer::Refused(Error::Damaged);
-        }
-        if IDENTITIES <= id {
-            return Answer::Refused(Error::Unknown);
-        }
-        let nodes = self.nodes;
-        let node = nodes[id];
-        let checked = records::checks::check_loading(node);
-        if let Answer::Refused(error) = checked {
-            return Answer::Refused(error);
-        }
-        let declarations = self.declarations;
-        let count = self.declaration_count;
-        let target = scans::target_table(nodes, declarations, count, id);
-        if node.retired | !target.there {
-            return Answer::Refused(Error::Changed);
-        }
-        Answer::Done
+        let node = self.entry(id)?;
+        check_loading(node)?;
+        let declarations = &self.declarations[..self.declaration_count];
+        let target = scans::target_table(&self.nodes, declarations, id);
+        refuse_if(node.retired | target.is_err(), Error::Changed)
     }
 
     // finish: a Loading component that still has a target becomes Active.
-    pub fn finish(mut self, id: usize) -> Outcome
+    pub fn finish(mut self, id: usize) -> Outcome<()>
         ensures { Returns self (Command.finish id) result }
     {
-        let answer = self.check_iteration(id);
-        if let Answer::Done = answer {
-            let nodes = self.nodes;
-            let changed = change(nodes, id, Transition::Finish);
-            self.nodes = changed;
-        }
+        let answer = self.finish_in(id);
         Outcome {
             kernel: self,
-            answer: answer,
+            answer,
         }
+    }
+
+    #[tactic(auto, using(crate::proofs::Laws::Lifecycle::finish_laws), unfolding(model::specs::Kernels::asked))]
+    fn finish_in(&mut self, id: usize) -> Result<(), Error>
+        ensures does { Does self.old (Command.finish id) self.new result }
+        ensures refused { OnErr result (self.new ≡ self.old) }
+    {
+        self.check_iteration(id)?;
+        self.nodes[id].phase = Phase::Active;
+        Ok(())
     }
 
     // leave: a Loading or Active component becomes Unloading.
-    pub fn leave(mut self, id: usize) -> Outcome
+    pub fn leave(mut self, id: usize) -> Outcome<()>
         ensures { Returns self (Command.leave id) result }
     {
-        let answer = self.check_node(id, Row::Running);
-        if let Answer::Done = answer {
-            let nodes = self.nodes;
-            let changed = change(nodes, id, Transition::Leave);
-            self.nodes = changed;
-        }
+        let answer = self.leave_in(id);
         Outcome {
             kernel: self,
-            answer: answer,
+            answer,
         }
+    }
+
+    #[tactic(auto, using(crate::proofs::Laws::Lifecycle::leave_laws), unfolding(model::specs::Refusals::first))]
+    fn leave_in(&mut self, id: usize) -> Result<(), Error>
+        ensures does { Does self.old (Command.leave id) self.new result }
+        ensures refused { OnErr result (self.new ≡ self.old) }
+    {
+        let node = self.entry(id)?;
+        check_running(node)?;
+        self.nodes[id].phase = Phase::Unloading;
+        Ok(())
     }
 
     // leave_if_changed: a Loading or Active component that has no target becomes Unloading.
-    pub fn leave_if_changed(mut self, id: usize) -> Outcome
+    pub fn leave_if_changed(mut self, id: usize) -> Outcome<()>
         ensures { Returns self (Command.leave_if_changed id) result }
     {
-        let answer = self.check_leave_if_changed(id);
-        if let Answer::Done = answer {
-            let nodes = self.nodes;
-            let changed = change(nodes, id, Transition::Leave);
-            self.nodes = changed;
-        }
+        let answer = self.leave_if_changed_in(id);
         Outcome {
             kernel: self,
-            answer: answer,
+            answer,
         }
     }
 
-    // What leave_if_changed answers.
-    fn check_leave_if_changed(self, id: usize) -> Answer
-        ensures { result ≡ answer_of self (λ T. leave_if_changed_tests T id) }
+    #[tactic(auto, using(crate::proofs::Laws::Lifecycle::leave_if_changed_laws), unfolding(model::specs::Refusals::first))]
+    fn leave_if_changed_in(&mut self, id: usize) -> Result<(), Error>
+        ensures does { Does self.old (Command.leave_if_changed id) self.new result }
+        ensures refused { OnErr result (self.new ≡ self.old) }
     {
-        if !self.sound() {
-            return Answer::Refused(Error::Damaged);
-        }
-        if IDENTITIES <= id {
-            return Answer::Refused(Error::Unknown);
-        }
-        let nodes = self.nodes;
-        let node = nodes[id];
-        let checked = records::checks::check_running(node);
-        if let Answer::Refused(error) = checked {
-            return Answer::Refused(error);
-        }
-        let declarations = self.declarations;
-        let count = self.declaration_count;
-        let target = scans::target_table(nodes, declarations, count, id);
-        if !(node.retired | !target.there) {
-            return Answer::Refused(Error::Changed);
-        }
-        Answer::Done
+        let node = self.entry(id)?;
+        check_running(node)?;
+        let declarations = &self.declarations[..self.declaration_count];
+        let target = scans::target_table(&self.nodes, declarations, id);
+        refuse_if(!node.retired & target.is_ok(), Error::Changed)?;
+        self.nodes[id].phase = Phase::Unloading;
+        Ok(())
     }
 
     // retire: in each phase, and twice.
-    pub fn retire(mut self, id: usize) -> Outcome
+    pub fn retire(mut self, id: usize) -> Outcome<()>
         ensures { Returns self (Command.retire id) result }
     {
-        let answer = self.check_node(id, Row::Present);
-        if let Answer::Done = answer {
-            let nodes = self.nodes;
-            let changed = change(nodes, id, Transition::Retire);
-            self.nodes = changed;
-        }
+        let answer = self.retire_in(id);
         Outcome {
             kernel: self,
-            answer: answer,
+            answer,
         }
     }
+
+    #[tactic(auto, using(crate::proofs::Laws::Lifecycle::retire_laws), unfolding(model::specs::Refusals::first))]
+    fn retire_in(&mut self, id: usize) -> Result<(), Error>
+        ensures does { Does self.old (Command.retire id) self.new result }
+        ensures refused { OnErr result (self.new ≡ self.old) }
+    {
+        let node = self.entry(id)?;
+        check_present(node)?;
+        self.nodes[id].retired = true;
+        Ok(())
+    }
+}
+
+// Behind the links below the count a live link of this consumer for each binding, with the generation of its provider's node; how many there are then.
+#[tactic(auto, using(crate::proofs::Laws::Links::provider_in, crate::proofs::Laws::Links::linked_next), unfolding(model::specs::Tables::node_at))]
+fn append_links(
+    links: &mut [Link; LINKS],
+    count: usize,
+    nodes: &[Node; IDENTITIES],
+    id: usize,
+    bindings: &[Binding],
+) -> usize
+    requires named { id < IDENTITIES }
+    requires providers { ProvidersWithin bindings.now }
+    requires room { count + length bindings.now ≤ LINKS }
+    requires blank { LinksBlankPast count links.old }
+    ensures array { links.new ≡ linked_to nodes.now id count links.old bindings.now }
+    ensures counted { result ≡ count + length bindings.now }
+{
+    for (i, b) in bindings.iter().enumerate() {
+        links[count + i] = records::live_link(id, *b, nodes[b.provider].generation);
+    }
+    count + bindings.len()
 }

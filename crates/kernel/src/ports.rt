@@ -1,29 +1,28 @@
 // Declarations for the ports of a list.
-ghost use Rattle.std.specs.Prelude.{◌≡◌};
-ghost use Rattle.kernel.specs.Ports.{Fits, appended};
+ghost use Rattle.std.specs.Prelude.{◌≡◌, ◌+◌, ◌<◌, ◌≤◌, length};
+ghost use Rattle.sizes.specs.Sizes.{DECLARATIONS, IDENTITIES};
+ghost use Rattle.kernel.specs.Ports.{BlankPast, appended};
 
-use model::{Declaration, PortList};
+use model::{Declaration, Port};
 use sizes::DECLARATIONS;
 
-// The declarations with those of an owner for so many ports of a list behind them, as many as there is room for.
+// Behind the declarations below the count one of this owner for each port; how many there are then.
+#[tactic(auto, using(crate::proofs::Laws::Ports::appended_next))]
 pub(crate) fn append_ports(
-    mut declarations: [Declaration; DECLARATIONS],
+    declarations: &mut [Declaration; DECLARATIONS],
     count: usize,
     owner: usize,
-    list: PortList,
-    more: usize,
+    ports: &[Port],
     provides: bool,
-) -> [Declaration; DECLARATIONS]
-    ensures { (more ≡ 0 → result ≡ declarations) × (Fits count owner more declarations → result ≡ appended count owner provides declarations list.ports more) }
+) -> usize
+    requires named { owner < IDENTITIES }
+    requires room { count + length ports.now ≤ DECLARATIONS }
+    requires blank { BlankPast count declarations.old }
+    ensures array { declarations.new ≡ appended count owner provides declarations.old ports.now }
+    ensures counted { result ≡ count + length ports.now }
 {
-    let from = loops::at_most(count, DECLARATIONS);
-    let room = loops::at_most(more, DECLARATIONS - from);
-    let end = loops::at_most(room, 32);
-    let mut i = 0;
-    while i < end {
-        let p = list.ports[i];
-        declarations[from + i] = records::declaration_of(owner, provides, p);
-        i += 1;
+    for (i, port) in ports.iter().enumerate() {
+        declarations[count + i] = records::declaration_of(owner, provides, *port);
     }
-    declarations
+    count + ports.len()
 }

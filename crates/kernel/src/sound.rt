@@ -1,43 +1,64 @@
 // The empty kernel, and whether a kernel is sound.
-ghost use Rattle.std.specs.Prelude.{◌≡◌};
-ghost use Rattle.kernel.specs.Fields.{kernel_of, is_sound};
+ghost use Rattle.std.specs.Prelude.{◌≡◌, []};
+ghost use Rattle.kernel.specs.Fields.{ask, is_sound, kernel_of};
 ghost use Rattle.model.specs.Kernels.{empty_kernel};
 ghost use Rattle.sizes.specs.Sizes.{sizes};
 
 use crate::Kernel;
+use model::{Declaration, Link};
 use sizes::{DECLARATIONS, IDENTITIES, LINKS};
 
 impl Kernel {
     // The empty kernel.
+    #[tactic(auto, unfolding(model::specs::Layouts::lay_out, model::specs::Lists::padded))]
     pub fn new() -> Self
         ensures { result ≡ kernel_of (empty_kernel sizes) }
     {
-        let node = records::blank_node();
-        let declaration = records::blank_declaration();
-        let link = records::blank_link();
-        let nodes = [node; IDENTITIES];
-        let declarations = [declaration; DECLARATIONS];
-        let links = [link; LINKS];
         Kernel {
-            nodes: nodes,
+            nodes: [records::blank_node(); IDENTITIES],
             node_count: 0,
-            declarations: declarations,
+            declarations: [records::blank_declaration(); DECLARATIONS],
             declaration_count: 0,
-            links: links,
+            links: [records::blank_link(); LINKS],
             link_count: 0,
         }
     }
 
     // Whether the kernel is sound: counts within the sizes, blanks past them, and the nine points.
-    pub fn sound(self) -> bool
-        ensures { result ≡ is_sound self }
+    pub fn sound(&self) -> bool
+        ensures { result ≡ is_sound self.now }
     {
-        let nodes = self.nodes;
-        let declarations = self.declarations;
-        let links = self.links;
-        let n = self.node_count;
-        let d = self.declaration_count;
-        let l = self.link_count;
-        soundness::tables_sound(nodes, n, declarations, d, links, l)
+        soundness::tables_sound(
+            &self.nodes,
+            self.node_count,
+            &self.declarations,
+            self.declaration_count,
+            &self.links,
+            self.link_count,
+        )
+    }
+
+    // The declarations below the count; none of a kernel that is not sound.
+    #[tactic(auto, using(crate::proofs::Laws::Arrays::sound_kernel, crate::proofs::Laws::Arrays::declarations_within), unfolding(model::specs::Kernels::asked, model::specs::Layouts::tables_of))]
+    pub(crate) fn sound_declarations(&self) -> &[Declaration]
+        ensures { result.now ≡ ask self.now [] (λ T. T.declarations) }
+    {
+        if self.sound() {
+            &self.declarations[..self.declaration_count]
+        } else {
+            &[]
+        }
+    }
+
+    // The links below the count; none of a kernel that is not sound.
+    #[tactic(auto, using(crate::proofs::Laws::Arrays::sound_kernel, crate::proofs::Laws::Arrays::links_within), unfolding(model::specs::Kernels::asked, model::specs::Layouts::tables_of))]
+    pub(crate) fn sound_links(&self) -> &[Link]
+        ensures { result.now ≡ ask self.now [] (λ T. T.links) }
+    {
+        if self.sound() {
+            &self.links[..self.link_count]
+        } else {
+            &[]
+        }
     }
 }

@@ -1,6 +1,6 @@
 -- What a row of the rules' table answers of a kernel, sound or not.
-use Rattle.std.specs.Prelude.{ℕ}
-use Rattle.model.specs.declared.Answer.{Answer}
+use Rattle.std.specs.Prelude.{ℕ, Err}
+use Rattle.model.specs.Answers.{Answer}
 use Rattle.model.specs.declared.Error.{Error}
 use Rattle.model.specs.declared.records.Node.{Node}
 use Rattle.model.specs.Answers.{checked}
@@ -12,7 +12,7 @@ use Rattle.model.specs.Tables.{Tables, node_at}
 
 -- 10 of a kernel that is not sound, else the first test that applies
 abbrev pub row_answer : Sizes → Layout → (Tables → Tests) → Answer
-row_answer S k f = asked S k (Answer.Refused Error.Damaged) (λ T. checked (f T))
+row_answer S k f = asked S k (Err Error.Damaged) (λ T. checked (f T))
 
 -- a row of tests of an identity's node
 abbrev pub of_node : (Node → Tests) → ℕ → Tables → Tests

@@ -9,9 +9,7 @@ pub mod Resolving
 pub mod Marking
 pub mod Passes
 pub mod Distinct
-pub mod Parents
 pub mod Chains
 pub mod InPlace
 pub mod Compacting
-pub mod Counting
 pub mod Edit

@@ -2,11 +2,13 @@
 #![tactic(auto)]
 
 ghost use Rattle.std.specs.Prelude.{◌≡◌, ◌<◌};
-ghost use Rattle.model.specs.Interface.{distinct, listed};
+ghost use Rattle.model.specs.Interface.{distinct};
+ghost use Rattle.model.specs.Lists.{any};
+ghost use Rattle.model.specs.Records.{same_port};
 ghost use Rattle.loops.specs.Chains.{BUCKETS, bucket_of};
 ghost use Rattle.loops.specs.Limits.{AtMost};
 
-use model::PortList;
+use model::Port;
 
 // The count, or the size where that is less.
 pub fn at_most(count: usize, size: usize) -> usize
@@ -27,27 +29,22 @@ pub fn bucket_of(owner: usize, key: u64, realm: u64) -> usize
     (owner % 64 * 5 + port) * 40503 % 65536 / 1024
 }
 
-// Whether a list has no port twice.
-pub fn distinct_ports(list: PortList) -> bool
-    ensures { result ≡ distinct (listed list) }
+// Whether a list has this port.
+fn is_listed(port: Port, ports: &[Port]) -> bool
+    ensures { result ≡ any (same_port port) ports.now }
 {
-    let count = list.count;
-    let ports = list.ports;
-    let end = at_most(count, 32);
-    let mut ok = true;
-    let mut i = 0;
-    'scan: while i < end {
-        let p = ports[i];
-        let mut j = i + 1;
-        while j < end {
-            let q = ports[j];
-            if records::same_port(p, q) {
-                ok = false;
-                break 'scan;
-            }
-            j += 1;
+    ports.contains(&port)
+}
+
+// Whether a list has no port twice.
+#[tactic(auto, using(crate::proofs::Laws::Distinct::distinct_next, crate::proofs::Laws::Distinct::distinct_twice, crate::proofs::Laws::Distinct::distinct_end))]
+pub fn distinct_ports(ports: &[Port]) -> bool
+    ensures { result ≡ distinct ports.now }
+{
+    for (i, port) in ports.iter().enumerate() {
+        if is_listed(*port, &ports[i + 1..]) {
+            return false;
         }
-        i += 1;
     }
-    ok
+    true
 }

@@ -1,19 +1,27 @@
--- The answer enums of the code: what each of their cases says in the rules' words and numbers.
-use Rattle.std.proofs.Math.Option.{Option, none, some}
-use Rattle.std.specs.Prelude.{ℕ}
-use Rattle.model.specs.declared.Answer.{Answer}
-use Rattle.model.specs.declared.InsertAnswer.{InsertAnswer}
-use Rattle.model.specs.declared.OptionGeneration.{OptionGeneration}
-use Rattle.model.specs.declared.OptionPhase.{OptionPhase}
-use Rattle.model.specs.declared.Phase.{Phase}
+-- The answers of the code, `Result` and `Option` of the language: what each of their cases says in the rules' words and numbers.
+use Rattle.std.proofs.Math.Option as maybe
+use Rattle.std.specs.Prelude.{ℕ, Err, None, Ok, Option, Result, Some}
+use Rattle.model.specs.declared.Error.{Error}
 use Rattle.model.specs.Refusals.{Reply, Tests, first, number, or_else}
+
+-- what a command or a check answers: done, or a refusal
+abbrev pub Answer : Type 0
+Answer = Result (Unit {0}) Error
+
+-- what insert answers: done with the new identity, or a refusal
+abbrev pub InsertAnswer : Type 0
+InsertAnswer = Result ℕ Error
+
+-- what a compaction answers: done with how many records went, or a refusal
+abbrev pub CompactionAnswer : Type 0
+CompactionAnswer = Result ℕ Error
 
 -- a command or a check: done, or the refusal
 abbrev pub answer : Reply → Answer
-answer Reply.done = Answer.Done
-answer (Reply.issued id) = Answer.Done
-answer (Reply.removed n) = Answer.Done
-answer (Reply.refused e) = Answer.Refused e
+answer Reply.done = Ok tt
+answer (Reply.issued id) = Ok tt
+answer (Reply.removed n) = Ok tt
+answer (Reply.refused e) = Err e
 
 -- the refusal of the first test that applies, or done
 abbrev pub checked : Tests → Answer
@@ -21,31 +29,24 @@ checked ts = answer (or_else (first ts) Reply.done)
 
 -- insert: done with the identity, or the refusal; it replies nothing else
 abbrev pub insert_answer : Reply → InsertAnswer
-insert_answer Reply.done = InsertAnswer.Done 0
-insert_answer (Reply.issued id) = InsertAnswer.Done id
-insert_answer (Reply.removed n) = InsertAnswer.Done 0
-insert_answer (Reply.refused e) = InsertAnswer.Refused e
+insert_answer Reply.done = Ok 0
+insert_answer (Reply.issued id) = Ok id
+insert_answer (Reply.removed n) = Ok 0
+insert_answer (Reply.refused e) = Err e
 
--- the compactions: how many records went, 0 on a refusal; they reply nothing else
-abbrev pub removed_count : Reply → ℕ
-removed_count Reply.done = 0
-removed_count (Reply.issued id) = 0
-removed_count (Reply.removed n) = n
-removed_count (Reply.refused e) = 0
+-- the compactions: done with how many records went, or the refusal; they reply nothing else
+abbrev pub compaction_answer : Reply → CompactionAnswer
+compaction_answer Reply.done = Ok 0
+compaction_answer (Reply.issued id) = Ok 0
+compaction_answer (Reply.removed n) = Ok n
+compaction_answer (Reply.refused e) = Err e
 
-abbrev pub option_phase : Option Phase → OptionPhase
-option_phase none = OptionPhase.None
-option_phase (some f) = OptionPhase.Some f
-
-abbrev pub option_generation : Option ℕ → OptionGeneration
-option_generation none = OptionGeneration.None
-option_generation (some g) = OptionGeneration.Some g
+-- what may be there, in the code's `Option`
+abbrev pub as_option : {A : Type 0} → maybe.Option A → Option A
+as_option maybe.none = None
+as_option (maybe.some x) = Some x
 
 -- in numbers: 0 for done, else the refusal's
-abbrev pub answer_number : Answer → ℕ
-answer_number Answer.Done = 0
-answer_number (Answer.Refused e) = number e
-
-abbrev pub insert_answer_number : InsertAnswer → ℕ
-insert_answer_number (InsertAnswer.Done id) = 0
-insert_answer_number (InsertAnswer.Refused e) = number e
+abbrev pub answer_number : {A : Type 0} → Result A Error → ℕ
+answer_number (Ok _) = 0
+answer_number (Err e) = number e

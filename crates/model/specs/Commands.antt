@@ -1,5 +1,5 @@
 -- The fourteen commands: for each its row of tests, the tables that it leaves and what it replies; then a step.
-use Rattle.std.specs.Prelude.{List, [], ◌∷◌, ℕ, length}
+use Rattle.std.specs.Prelude.{[], ℕ, length}
 use Rattle.std.proofs.Math.Option.{Option, none, some}
 use Rattle.model.specs.declared.Error.{Error}
 use Rattle.model.specs.declared.records.Node.{Node}

@@ -1,9 +1,8 @@
 -- The test behind a refusal: for each test of a command's row its place in the rules' table, its number there and what it names; the explanation of a command.
-use Rattle.std.specs.Prelude.{◌≡◌, Bool, cond, false, true, List, [], ◌++◌, ◌∷◌, map, ◌↔◌, ◌⊎◌, ◌<◌, ◌≤◌, suc, ℕ, length}
+use Rattle.std.specs.Prelude.{◌≡◌, Bool, Err, Ok, Result, cond, false, true, List, [], ◌++◌, ◌∷◌, map, ◌↔◌, ◌⊎◌, ◌<◌, ◌≤◌, suc, ℕ, length}
 use Rattle.std.proofs.Math.Option.{Option, none, some}
 use Rattle.model.specs.declared.Binding.{Binding}
 use Rattle.model.specs.declared.Error.{Error}
-use Rattle.model.specs.declared.explanation.Explanation.{Explanation}
 use Rattle.model.specs.declared.explanation.LinkAt.{LinkAt}
 use Rattle.model.specs.declared.explanation.ListKind.{ListKind}
 use Rattle.model.specs.declared.explanation.Measure.{Measure}
@@ -182,17 +181,21 @@ row S T c = named (tests S T c) (reasons T c)
 
 -- ---- the explanation
 
+-- accepted, or the refusal with its place, its test and what that found
+abbrev pub Explanation : Type 0
+Explanation = Result (Unit {0}) Refusal
+
 -- the first test that applies
 unfoldable pub explain : List (Bool × Refusal) → Explanation
-explain [] = Explanation.Accepted
-explain (t ∷ ts) = cond t.0 (Explanation.Refused t.1) (explain ts)
+explain [] = Ok tt
+explain (t ∷ ts) = cond t.0 (Err t.1) (explain ts)
 
 unfoldable pub explained : Sizes → Tables → Command → Explanation
 explained S T c = explain (row S T c)
 
 -- the place 'entry': an unsound kernel has no witness
 abbrev pub damaged : Explanation
-damaged = Explanation.Refused (record { error = Error.Damaged; place = Place.Entry; test = 1; witness = Witness.Nothing })
+damaged = Err (record { error = Error.Damaged; place = Place.Entry; test = 1; witness = Witness.Nothing })
 
 -- of a command on a kernel, sound or not
 abbrev pub explained_on : Sizes → Layout → Command → Explanation
@@ -339,11 +342,11 @@ pub record Behind (S : Sizes) (T : Tables) (c : Command) (r : Refusal) : Type 0 
 -- x explains the command c on the kernel k
 pub record Explains (S : Sizes) (k : Layout) (c : Command) (x : Explanation) : Type 0 where
   -- accepted exactly if the command is, and else the refusal that it replies
-  pub accepts : (x ≡ Explanation.Accepted) ↔ (accepted (commanded S k c).reply ≡ true)
-  pub refuses : (r : Refusal) → x ≡ Explanation.Refused r → (commanded S k c).reply ≡ Reply.refused r.error
-  pub behind : sound_kernel S k ≡ true → (r : Refusal) → x ≡ Explanation.Refused r → Behind S (tables_of k) c r
+  pub accepts : (x ≡ Ok tt) ↔ (accepted (commanded S k c).reply ≡ true)
+  pub refuses : (r : Refusal) → x ≡ Err r → (commanded S k c).reply ≡ Reply.refused r.error
+  pub behind : sound_kernel S k ≡ true → (r : Refusal) → x ≡ Err r → Behind S (tables_of k) c r
   -- of a dependency that does not resolve: which of the two reasons holds
-  pub reason : sound_kernel S k ≡ true → (r : Refusal) (u : Unresolved) → x ≡ Explanation.Refused r → r.witness ≡ Witness.Dependency u → Says (tables_of k) u.port u.found
+  pub reason : sound_kernel S k ≡ true → (r : Refusal) (u : Unresolved) → x ≡ Err r → r.witness ≡ Witness.Dependency u → Says (tables_of k) u.port u.found
   pub unsound : sound_kernel S k ≡ false → x ≡ damaged
 
 -- one claim about all kernels, sound or not, and all commands
@@ -356,15 +359,15 @@ RowsTold = (S : Sizes) (T : Tables) (c : Command) → map (λ (t : Bool × Refus
 
 -- finish of a retired component names only the identity, and so does leave_if_changed
 abbrev pub RetiredNamed : Type 0
-RetiredNamed = (S : Sizes) (T : Tables) (id : ℕ) (r : Refusal) → (node_at T.nodes id).retired ≡ true → explained S T (Command.finish id) ≡ Explanation.Refused r → r.witness ≡ Witness.Component id
+RetiredNamed = (S : Sizes) (T : Tables) (id : ℕ) (r : Refusal) → (node_at T.nodes id).retired ≡ true → explained S T (Command.finish id) ≡ Err r → r.witness ≡ Witness.Component id
 
 abbrev pub UnchangedNamed : Type 0
-UnchangedNamed = (S : Sizes) (T : Tables) (id : ℕ) (r : Refusal) → explained S T (Command.leave_if_changed id) ≡ Explanation.Refused r → r.witness ≡ Witness.Component id
+UnchangedNamed = (S : Sizes) (T : Tables) (id : ℕ) (r : Refusal) → explained S T (Command.leave_if_changed id) ≡ Err r → r.witness ≡ Witness.Component id
 
 -- what a check replies, by an explanation
 abbrev pub reply_by : Explanation → Reply
-reply_by Explanation.Accepted = Reply.done
-reply_by (Explanation.Refused r) = Reply.refused r.error
+reply_by (Ok _) = Reply.done
+reply_by (Err r) = Reply.refused r.error
 
 -- check_insert and check_iteration reply by the same rows
 pub record ChecksExplained (S : Sizes) (k : Layout) : Type 0 where

@@ -41,6 +41,10 @@ unknown T id = (not (present T.nodes id), Error.Unknown)
 abbrev pub absent : Node → Bool × Error
 absent n = (not n.present, Error.Unknown)
 
+-- tested of the component's node by release_provision and retire
+abbrev pub present_tests : Node → Tests
+present_tests n = absent n ∷ []
+
 -- ---- declare_provision
 
 -- a present owner provides the port

@@ -13,7 +13,6 @@ pub mod Compaction
 pub mod Interface
 pub mod Insertion
 pub mod Lifecycle
-pub mod Rows
 pub mod Commands
 pub mod Recorded
 pub mod Iteration
@@ -25,3 +24,4 @@ pub mod Drain
 pub mod Impact
 pub mod Explanation
 pub mod Samples
+pub mod Shown

@@ -1,6 +1,8 @@
 -- Lists under a Boolean test: what the definitions are made of.
 use Rattle.std.specs.Prelude.{Bool, ◌&&◌, ◌||◌, cond, false, not, true, List, [], ◌++◌, ◌∷◌, ◌-◌, suc, ℕ, length, replicate}
 use Rattle.std.proofs.Math.Option.{Option, none, some}
+-- every entry; some entry; the entries that pass, in order: the standard library's
+pub use Rattle.std.specs.List.{list_all as all, list_any as any, filter as keep}
 
 infixr 29 ◌⇒◌
 -- the second, where the first
@@ -22,21 +24,6 @@ is_none none = true
 is_none (some a) = false
 
 module _ {A : Type 0} where
-  -- every entry
-  unfoldable pub all : (A → Bool) → List A → Bool
-  all p [] = true
-  all p (x ∷ xs) = p x && all p xs
-
-  -- some entry
-  unfoldable pub any : (A → Bool) → List A → Bool
-  any p [] = false
-  any p (x ∷ xs) = p x || any p xs
-
-  -- the entries that pass, in order
-  unfoldable pub keep : (A → Bool) → List A → List A
-  keep p [] = []
-  keep p (x ∷ xs) = cond (p x) (x ∷ keep p xs) (keep p xs)
-
   -- the first entry that passes
   unfoldable pub find : (A → Bool) → List A → Option A
   find p [] = none

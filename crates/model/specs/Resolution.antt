@@ -1,8 +1,7 @@
 -- resolve, target, committed.
-use Rattle.std.specs.Prelude.{◌≡◌, Bool, ◌&&◌, cond, not, true, List, [], ◌∷◌, map, ℕ, eqb}
+use Rattle.std.specs.Prelude.{◌≡◌, Bool, ◌&&◌, cond, not, true, List, [], ◌∷◌, map, ℕ, eqb, None, Option as CodeOption, Some}
 use Rattle.std.proofs.Math.Option.{Option, none, some}
 use Rattle.model.specs.declared.Binding.{Binding}
-use Rattle.model.specs.declared.OptionUnresolved.{OptionUnresolved}
 use Rattle.model.specs.declared.records.Declaration.{Declaration}
 use Rattle.model.specs.declared.records.Link.{Link}
 use Rattle.model.specs.declared.records.Node.{Node}
@@ -71,10 +70,10 @@ target_list (Target.missing u) = none
 target_list Target.nothing = none
 
 -- what is missing: nothing if there is a target
-abbrev pub missing_of : Target → OptionUnresolved
-missing_of (Target.bound bs) = OptionUnresolved.None
-missing_of (Target.missing u) = OptionUnresolved.Some u
-missing_of Target.nothing = OptionUnresolved.None
+abbrev pub missing_of : Target → CodeOption Unresolved
+missing_of (Target.bound bs) = None
+missing_of (Target.missing u) = Some u
+missing_of Target.nothing = None
 
 -- a first binding before those of the rest, if the rest has them
 abbrev pub before : Binding → Target → Target

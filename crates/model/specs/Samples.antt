@@ -1,8 +1,8 @@
 -- The sample sequences C01 to C12, the episodes of a provider, and the order of the tests, each as one table of rows: what is asked of a kernel, and what it shows; and explanations.
-use Rattle.std.specs.Prelude.{◌≡◌, Bool, cond, false, true, List, [], ◌∷◌, map, suc, ℕ}
+use Rattle.std.specs.Prelude.{Err, Ok, ◌≡◌, Bool, cond, false, true, List, [], ◌∷◌, map, suc, ℕ}
 use Rattle.std.proofs.Math.Option.{Option, none, some}
 use Rattle.model.specs.declared.Error.{Error}
-use Rattle.model.specs.declared.explanation.Explanation.{Explanation}
+use Rattle.model.specs.Explanation.{Explanation}
 use Rattle.model.specs.declared.explanation.ListKind.{ListKind}
 use Rattle.model.specs.declared.explanation.Measure.{Measure}
 use Rattle.model.specs.declared.explanation.Place.{Place}
@@ -321,7 +321,7 @@ abbrev overlong : ℕ → PortList
 overlong n = record { ports = []; count = n }
 
 abbrev because : Error → Place → ℕ → Witness → Explanation
-because e r n w = Explanation.Refused (record { error = e; place = r; test = n; witness = w })
+because e r n w = Err (record { error = e; place = r; test = n; witness = w })
 
 abbrev repeats : ListKind → ℕ → ℕ → Witness
 repeats l i j = Witness.Repeated (record { list = l; earlier = i; later = j })
@@ -347,11 +347,11 @@ explanations =
     (Command.insert Parent.None (port_list (P ∷ A ∷ C ∷ A ∷ P ∷ [])) no_ports, because Error.Conflict Place.Insertion 4 (repeats ListKind.Dependencies 1 3)) ∷
     (Command.insert Parent.None (port_list (A ∷ A ∷ [])) (only B), because Error.Conflict Place.Insertion 4 (Witness.Clash (binding_of B 4))) ∷
     (Command.insert Parent.None (only A) no_ports, because Error.Capacity Place.Insertion 5 (number Measure.DeclarationSum 8)) ∷
-    (Command.insert Parent.None no_ports no_ports, Explanation.Accepted) ∷
+    (Command.insert Parent.None no_ports no_ports, Ok tt) ∷
     (Command.declare_provision 1 P, because Error.Conflict Place.DeclareProvision 3 (Witness.Clash (binding_of P 0))) ∷
     (Command.declare_provision 1 A, because Error.Capacity Place.DeclareProvision 4 (number Measure.DeclarationCount 7)) ∷
     (Command.release_provision 0 P, because Error.Relied Place.ReleaseProvision 1 first_link) ∷
-    (Command.release_provision 0 A, Explanation.Accepted) ∷
+    (Command.release_provision 0 A, Ok tt) ∷
     (Command.configure_pending_dependencies 1 (port_list (A ∷ A ∷ B ∷ C ∷ [])), because Error.Capacity Place.ConfigurePendingDependencies 3 (number Measure.DeclarationSum 8)) ∷
     (Command.configure_pending_dependencies 1 (port_list (A ∷ B ∷ A ∷ [])), because Error.Conflict Place.ConfigurePendingDependencies 4 (repeats ListKind.Dependencies 0 2)) ∷
     -- a port that nobody provides; a provider that is not Active
@@ -362,13 +362,13 @@ explanations =
     (Command.begin 3, because Error.Retired Place.Begin 2 (Witness.Component 3)) ∷
     (Command.begin 5, because Error.Capacity Place.Begin 5 (number Measure.LinkSum 2)) ∷
     (Command.leave 1, because Error.InvalidState Place.Leave 1 (Witness.Component 1)) ∷
-    (Command.leave_if_changed 2, Explanation.Accepted) ∷
+    (Command.leave_if_changed 2, Ok tt) ∷
     (Command.leave_if_changed 4, because Error.Changed Place.LeaveIfChanged 2 (Witness.Component 4)) ∷
     (Command.retire 9, because Error.Unknown Place.Identity 1 (Witness.Component 9)) ∷
     (Command.begin_cleanup 0, because Error.Relied Place.BeginCleanup 2 first_link) ∷
     (Command.finish_cleanup 0, because Error.InvalidState Place.FinishCleanup 1 (Witness.Component 0)) ∷
     (Command.remove 3, because Error.Children Place.Remove 2 (Witness.Child 4)) ∷
-    (Command.compact_bindings, Explanation.Accepted) ∷ []
+    (Command.compact_bindings, Ok tt) ∷ []
 
 abbrev pub ExplanationsHold : Type 0
 ExplanationsHold = map (λ (x : Command × Explanation). explained_on small (reached small explained_after) x.0) explanations ≡ map (λ (x : Command × Explanation). x.1) explanations

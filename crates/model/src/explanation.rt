@@ -76,17 +76,11 @@ pub enum Witness {
     Number(Measured),
 }
 
-// The refusal, the row and the test that gave it, counted from 1 in the row, and what the test found.
+// An explanation is Result<(), Refusal>: accepted, or the refusal, the row and the test that gave it, counted from 1 in the row, and what the test found.
 #[derive(Clone, Copy)]
 pub struct Refusal {
     pub error: Error,
     pub place: Place,
     pub test: usize,
     pub witness: Witness,
-}
-
-#[derive(Clone, Copy)]
-pub enum Explanation {
-    Accepted,
-    Refused(Refusal),
 }

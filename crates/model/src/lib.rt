@@ -1,17 +1,16 @@
-// What callers see of the lifecycle kernel: phases, ports, bindings, refusals and answers; and the stored records. There is no function here.
+// What callers see of the lifecycle kernel: phases, ports, bindings, refusals and answers; and the stored records. The functions here are the types' own:
+// equality, conversion, printing.
 #![tactic(auto)]
 
+mod converted;
 pub mod explanation;
 pub mod records;
-pub mod rows;
+mod shown;
 
-pub use explanation::{
-    Explanation, LinkAt, ListKind, Measure, Measured, Place, Refusal, Repeat, Witness,
-};
+pub use explanation::{LinkAt, ListKind, Measure, Measured, Place, Refusal, Repeat, Witness};
 pub use records::{Declaration, Link, Node, StoredParent};
-pub use rows::{Row, Transition};
 
-#[derive(Clone, Copy)]
+#[derive(Clone, Copy, PartialEq, Eq)]
 pub enum Phase {
     Inactive,
     Loading,
@@ -20,29 +19,30 @@ pub enum Phase {
 }
 
 // No parent, or the parent's identity.
-#[derive(Clone, Copy)]
+#[derive(Clone, Copy, PartialEq, Eq)]
 pub enum Parent {
     None,
     Of(usize),
 }
 
-#[derive(Clone, Copy)]
+#[derive(Clone, Copy, PartialEq, Eq)]
 pub struct Port {
     pub key: u64,
     pub realm: u64,
 }
 
-#[derive(Clone, Copy)]
+#[derive(Clone, Copy, PartialEq, Eq)]
 pub struct Binding {
     pub key: u64,
     pub realm: u64,
     pub provider: usize,
 }
 
-// The kinds of refusal: the nine of lib.rs, in its order, and Damaged for an unsound kernel.
-#[derive(Clone, Copy)]
+// The kinds of refusal, with their numbers in the rules: the nine of lib.rs, in its order, and Damaged for an unsound kernel. A command or a check answers
+// Result<(), Error>, and insert Result<usize, Error>, with the new identity.
+#[derive(Clone, Copy, PartialEq, Eq)]
 pub enum Error {
-    Unknown,
+    Unknown = 1,
     InvalidState,
     Retired,
     MissingDependency,
@@ -55,24 +55,10 @@ pub enum Error {
 }
 
 // The ports below the count; those past it are ignored. A count over 32 is a list that is too long.
-#[derive(Clone, Copy)]
+#[derive(Clone, Copy, PartialEq, Eq)]
 pub struct PortList {
     pub ports: [Port; 32],
     pub count: usize,
-}
-
-// What a command or a check answers.
-#[derive(Clone, Copy)]
-pub enum Answer {
-    Done,
-    Refused(Error),
-}
-
-// What insert answers: done with the new identity, or a refusal.
-#[derive(Clone, Copy)]
-pub enum InsertAnswer {
-    Done(usize),
-    Refused(Error),
 }
 
 // What resolve answers: the Active provider; a present owner that provides the port but is not Active; no present owner.
@@ -88,27 +74,6 @@ pub enum Resolution {
 pub struct Unresolved {
     pub port: Port,
     pub found: Resolution,
-}
-
-// What target says is missing.
-#[derive(Clone, Copy)]
-pub enum OptionUnresolved {
-    Some(Unresolved),
-    None,
-}
-
-// What phase answers.
-#[derive(Clone, Copy)]
-pub enum OptionPhase {
-    Some(Phase),
-    None,
-}
-
-// What episode_generation answers.
-#[derive(Clone, Copy)]
-pub enum OptionGeneration {
-    Some(u64),
-    None,
 }
 
 // The commands that a drain is made of.

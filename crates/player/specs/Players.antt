@@ -1,6 +1,6 @@
 -- The code's player: the state of a run, and what playing on promises.
-use Rattle.std.specs.Prelude.{◌≡◌, ℕ, List, [], ◌∷◌, length, take}
-use Rattle.model.specs.declared.InsertAnswer.{InsertAnswer}
+use Rattle.std.specs.Prelude.{◌≡◌, ℕ, List, [], ◌∷◌, length, take, Err, None, Ok, Option, Result, Some}
+use Rattle.model.specs.declared.Error.{Error}
 use Rattle.player.specs.Played.{State, Turn, answers_of, state_after, turns}
 use Rattle.player.specs.declared.commands.Player.{Player}
 use Rattle.text.specs.Written.{written}
@@ -26,7 +26,18 @@ Plays p log answers r answers' =
     let ts = take (length answers) (turns (state_of p) log) in
     (r ≡ player_after (state_of p) ts) × (answers' ≡ written (answers_of ts) answers)
 
--- the identity of an insert that is done
-abbrev pub issued_by : InsertAnswer → ℕ
-issued_by (InsertAnswer.Done id) = id
-issued_by (InsertAnswer.Refused e) = 0
+-- the answer of the first of these turns, if there is one
+abbrev pub first_answer : List Turn → Option ℕ
+first_answer [] = None
+first_answer (t ∷ ts) = Some t.answer
+
+-- a player that played the next command, if the log has one: where it stands now, and the answer
+abbrev pub Steps : Player → List ℕ → Player → Option ℕ → Type 0
+Steps p log r answer =
+    let ts = take 1 (turns (state_of p) log) in
+    (r ≡ player_after (state_of p) ts) × (answer ≡ first_answer ts)
+
+-- the identity that an insert issued, or the count that a compaction removed; 0 where they are refused
+abbrev pub detail_in : Result ℕ Error → ℕ
+detail_in (Ok n) = n
+detail_in (Err e) = 0

@@ -1,20 +1,17 @@
 // For Rust, what is asked of the kernels that a log's commands leave: drains, and who is hit if a component leaves.
 ghost use Rattle.std.specs.Prelude.{◌≤◌, length};
 
-use crate::commands::{Player, play};
-use crate::{drains, lists, put};
+use crate::commands::Player;
+use crate::put::Bytes;
+use crate::{drains, lists, log, turns};
 
-// What is asked for after command `index`, by its byte: 1 the drain, 2 the drain that is played too, 3 the list of each identity; else nothing.
-fn write_asked(out: &mut [u8], at: usize, player: Player, asked: &[u8], index: usize) -> usize
-    ensures { result ≤ length out.old }
-{
-    let kernel = player.kernel;
-    let wanted = crate::log::byte_at(asked, index);
+// 1 asks for the drain, 2 for the drain that is played too, 3 for the list of each identity; anything else for nothing.
+fn wanted(out: &mut Bytes, player: &Player, wanted: u8) {
     match wanted {
-        1 => drains::drained(out, at, player, false),
-        2 => drains::drained(out, at, player, true),
-        3 => lists::all(out, at, kernel),
-        _ => loops::at_most(at, out.len()),
+        1 => drains::drained(out, player, false),
+        2 => drains::drained(out, player, true),
+        3 => lists::all(out, &player.kernel),
+        _ => {}
     }
 }
 
@@ -22,24 +19,7 @@ fn write_asked(out: &mut [u8], at: usize, player: Player, asked: &[u8], index: u
 pub fn nobrighi_asked(log: &[u8], asked: &[u8], out: &mut [u8]) -> usize
     ensures { result ≤ length out.old }
 {
-    let mut player = crate::commands::start();
-    let mut answer = [0u8; 1];
-    let mut written = 0;
-    let mut index = 0;
-    while index < log.len() {
-        if put::free(out, written) < 65536 {
-            break;
-        }
-        player = play(player, log, &mut answer);
-        if player.answered == 0 {
-            break;
-        }
-        let number = answer[0];
-        written = write_asked(out, written, player, asked, index);
-        if 10 < number {
-            break;
-        }
-        index += 1;
-    }
-    written
+    turns::each(log, out, |out, turn| {
+        wanted(out, turn.player, log::byte_at(asked, turn.index));
+    })
 }

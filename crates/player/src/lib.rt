@@ -16,6 +16,7 @@ mod printing;
 pub mod put;
 mod tables;
 mod times;
+mod turns;
 
 pub use asked::nobrighi_asked;
 pub use commands::{Player, play, start};
@@ -27,8 +28,7 @@ pub use times::nobrighi_times;
 pub fn nobrighi_play(log: &[u8], answers: &mut [u8]) -> usize
     ensures { Puts (answers_of (turns fresh log.now)) answers.old 0 answers.new result }
 {
-    let played = play(start(), log, answers);
-    played.answered
+    play(start(), log, answers).answered
 }
 
 // Writes what is printed of the log's first 65,536 bytes. Gives how many bytes were written.
@@ -38,46 +38,14 @@ pub fn nobrighi_print(log: &[u8], out: &mut [u8]) -> usize
     print(log, out)
 }
 
-// One record: the answer, the detail and the tables, then the observers' answers if this command has a question.
-fn write_record(
-    out: &mut [u8],
-    at: usize,
-    player: Player,
-    answer: u8,
-    questions: &[u8],
-    every: usize,
-    index: usize,
-) -> usize
-    ensures { result ≤ length out.old }
-{
-    let at = put::byte(out, at, answer);
-    let at = tables::all(out, at, player);
-    observe::asked(out, at, player, questions, every, index)
-}
-
-// Plays the log and writes a record after each command, also for an 11 or a 12, while 65,536 bytes of out are free.
-// Gives how many bytes were written.
+// Plays the log and writes a record after each command, also for an 11 or a 12, while 65,536 bytes of out are free: the answer, the detail and the tables,
+// then the observers' answers if this command has a question. Gives how many bytes were written.
 pub fn nobrighi_record(log: &[u8], questions: &[u8], every: usize, out: &mut [u8]) -> usize
     ensures { result ≤ length out.old }
 {
-    let mut player = start();
-    let mut answer = [0u8; 1];
-    let mut written = 0;
-    let mut index = 0;
-    while index < log.len() {
-        if put::free(out, written) < 65536 {
-            break;
-        }
-        player = play(player, log, &mut answer);
-        if player.answered == 0 {
-            break;
-        }
-        let number = answer[0];
-        written = write_record(out, written, player, number, questions, every, index);
-        if 10 < number {
-            break;
-        }
-        index += 1;
-    }
-    written
+    turns::each(log, out, |out, turn| {
+        out.byte(turn.answer);
+        tables::all(out, turn.player);
+        observe::asked(out, turn.player, questions, every, turn.index);
+    })
 }

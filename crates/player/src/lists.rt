@@ -1,36 +1,21 @@
 // Who is hit if a component leaves, as bytes: a list for each identity.
-ghost use Rattle.std.specs.Prelude.{◌≤◌, length};
-
-use crate::put;
-use impact::Affected;
+use crate::put::Bytes;
 use kernel::Kernel;
+use model::Error;
+use results::Identities;
 use sizes::IDENTITIES;
 
 // The answer, the count and all 64 identities, those past the count too.
-fn list(out: &mut [u8], at: usize, affected: Affected) -> usize
-    ensures { result ≤ length out.old }
-{
-    let answer = affected.answer;
-    let hit = affected.ids;
-    let ids = hit.ids;
-    let mut at = put::head(out, at, answer, hit.count);
-    let mut i = 0;
-    while i < IDENTITIES {
-        at = put::word(out, at, ids[i] as u64);
-        i += 1;
+fn list(out: &mut Bytes, affected: Result<Identities, Error>) {
+    out.head(affected.map(|hit| hit.count));
+    for id in affected.map_or([0; IDENTITIES], |hit| hit.ids) {
+        out.word(id as u64);
     }
-    at
 }
 
 // The list of each identity, and of one past the last.
-pub fn all(out: &mut [u8], at: usize, kernel: Kernel) -> usize
-    ensures { result ≤ length out.old }
-{
-    let mut at = loops::at_most(at, out.len());
-    let mut id = 0;
-    while id <= IDENTITIES {
-        at = list(out, at, impact::affected(kernel, id));
-        id += 1;
+pub fn all(out: &mut Bytes, kernel: &Kernel) {
+    for id in 0..=IDENTITIES {
+        list(out, impact::affected(kernel, id));
     }
-    at
 }

@@ -1,91 +1,81 @@
-// Bytes at the end of what is written; each function gives the place after them, at most the length. A byte past the end is left out.
+// Bytes put into a lent slice one behind another; one past the end is left out. Numbers stand least byte first.
+ghost use Rattle.std.specs.Prelude.{◌≡◌, ◌+◌, length};
+ghost use Rattle.text.specs.Written.{Puts};
 
-ghost use Rattle.std.specs.Prelude.{◌≡◌, ◌-◌, ◌≤◌, length};
+use model::{Binding, Error, Port};
+use text::Text;
 
-use model::Answer;
+#[derive(Drop)]
+pub struct Bytes<'a>(Text<'a>);
 
-// How many bytes are free.
-pub fn free(out: &[u8], at: usize) -> usize
-    ensures { result ≡ length out.now - at }
-{
-    if at < out.len() { out.len() - at } else { 0 }
-}
-
-pub fn byte(out: &mut [u8], at: usize, byte: u8) -> usize
-    ensures { result ≤ length out.old }
-{
-    if at < out.len() {
-        out[at] = byte;
-        at + 1
-    } else {
-        out.len()
+impl<'a> Bytes<'a> {
+    pub fn new(out: &'a mut [u8]) -> Self {
+        Bytes(Text::new(out))
     }
-}
 
-// 1 for yes, 0 for no.
-pub fn flag(out: &mut [u8], at: usize, flag: bool) -> usize
-    ensures { result ≤ length out.old }
-{
-    if flag {
-        byte(out, at, 1)
-    } else {
-        byte(out, at, 0)
+    // How many are put.
+    pub fn len(&self) -> usize
+        ensures { result ≡ self.now.0.len }
+    {
+        self.0.len()
     }
-}
 
-// The low bytes of a number, least first.
-fn bytes(out: &mut [u8], at: usize, number: u64, count: usize) -> usize
-    ensures { result ≤ length out.old }
-{
-    let mut at = loops::at_most(at, out.len());
-    let mut rest = number;
-    let mut i = 0;
-    while i < count {
-        at = byte(out, at, (rest % 256) as u8);
-        rest = rest / 256;
-        i += 1;
+    // How many more fit.
+    pub fn free(&self) -> usize
+        ensures { result + self.now.0.len ≡ length self.now.0.bytes.now }
+    {
+        self.0.free()
     }
-    at
-}
 
-// A number of one byte.
-pub fn small(out: &mut [u8], at: usize, number: usize) -> usize
-    ensures { result ≤ length out.old }
-{
-    bytes(out, at, number as u64, 1)
-}
+    pub fn put(&mut self, bytes: &[u8])
+        ensures same_reference { self.new.0.bytes.ghost_name ≡ self.old.0.bytes.ghost_name }
+        ensures puts { Puts bytes.now self.old.0.bytes.now self.old.0.len self.new.0.bytes.now self.new.0.len }
+    {
+        self.0.put(bytes);
+    }
 
-pub fn half(out: &mut [u8], at: usize, number: usize) -> usize
-    ensures { result ≤ length out.old }
-{
-    bytes(out, at, number as u64, 2)
-}
+    pub fn byte(&mut self, byte: u8) {
+        self.put(&[byte]);
+    }
 
-pub fn word(out: &mut [u8], at: usize, number: u64) -> usize
-    ensures { result ≤ length out.old }
-{
-    bytes(out, at, number, 8)
-}
+    // 1 for yes, 0 for no.
+    pub fn flag(&mut self, flag: bool) {
+        self.byte(u8::from(flag));
+    }
 
-// An identity or a number that may be missing: 1 and it, or 0 and 0.
-pub fn some(out: &mut [u8], at: usize, number: u64) -> usize
-    ensures { result ≤ length out.old }
-{
-    let at = byte(out, at, 1);
-    word(out, at, number)
-}
+    // A number's low byte.
+    pub fn small(&mut self, number: usize) {
+        self.put(&number.to_le_bytes()[..1]);
+    }
 
-pub fn none(out: &mut [u8], at: usize) -> usize
-    ensures { result ≤ length out.old }
-{
-    let at = byte(out, at, 0);
-    word(out, at, 0)
-}
+    // Its two low bytes.
+    pub fn half(&mut self, number: usize) {
+        self.put(&number.to_le_bytes()[..2]);
+    }
 
-// An answer's number and a count.
-pub fn head(out: &mut [u8], at: usize, answer: Answer, count: usize) -> usize
-    ensures { result ≤ length out.old }
-{
-    let at = byte(out, at, records::answer_number(answer));
-    half(out, at, count)
+    pub fn word(&mut self, number: u64) {
+        self.put(&number.to_le_bytes());
+    }
+
+    // 1 and the number, or 0 and 0.
+    pub fn optional(&mut self, number: Option<u64>) {
+        self.flag(number.is_some());
+        self.word(number.unwrap_or(0));
+    }
+
+    pub fn port(&mut self, port: Port) {
+        self.word(port.key);
+        self.word(port.realm);
+    }
+
+    pub fn binding(&mut self, binding: Binding) {
+        self.port(Port::from(binding));
+        self.word(binding.provider as u64);
+    }
+
+    // An answer's number and its count, 0 where it is refused.
+    pub fn head(&mut self, answer: Result<usize, Error>) {
+        self.byte(records::answer_number(answer));
+        self.half(answer.unwrap_or(0));
+    }
 }

@@ -1,19 +1,15 @@
 -- Why a command of a log answers what it answers: the log's own refusals, or the kernel's explained.
-use Rattle.std.specs.Prelude.{◌≡◌, ℕ, zero, suc, cond, List, [], ◌∷◌, slice_index}
-use Rattle.explain.specs.declared.calls.Call.{Call}
-use Rattle.explain.specs.declared.calls.CommandKind.{CommandKind}
+use Rattle.std.specs.Prelude.{Ok, ◌≡◌, ℕ, zero, suc, cond, List, [], ◌∷◌, slice_index}
 use Rattle.explain.specs.Explanations.{explanation_of}
 use Rattle.model.specs.declared.PortList.{PortList}
-use Rattle.model.specs.declared.explanation.Explanation.{Explanation}
 use Rattle.model.specs.Explanation.{reply_by}
 use Rattle.model.specs.Refusals.{reply_number}
-use Rattle.player.specs.Log.{parent_of, port_at}
 use Rattle.player.specs.Played.{Item, State, Turn, answers_of, is_full, turns}
 use Rattle.reasons.specs.declared.said.LogExplanation.{LogExplanation}
 
 -- a port for a list: a 33rd is refused, with the count
 abbrev pub addition_said : PortList → LogExplanation
-addition_said l = cond (is_full l) (LogExplanation.Full l.count) (LogExplanation.Command Explanation.Accepted)
+addition_said l = cond (is_full l) (LogExplanation.Full l.count) (LogExplanation.Command (Ok tt))
 
 abbrev pub said_of : State → Item → LogExplanation
 said_of s (Item.dependency p) = addition_said s.dependencies
@@ -28,11 +24,6 @@ unfoldable pub said_in : State → List Turn → ℕ → LogExplanation
 said_in s [] n = LogExplanation.NoCommand
 said_in s (t ∷ ts) zero = said_of s t.item
 said_in s (t ∷ ts) (suc n) = said_in t.after ts n
-
--- a command with these operands and the pending lists
-abbrev pub call_of : CommandKind → State → List ℕ → Call
-call_of kind s operands =
-    record { kind = kind; id = slice_index operands 0; port = port_at operands 1; parent = parent_of (slice_index operands 0); dependencies = s.dependencies; provisions = s.provisions }
 
 -- ---- what is claimed
 

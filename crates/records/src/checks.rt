@@ -1,172 +1,109 @@
 // What a command tests of its component's node, in the order of its row, and what update_node tests of a link.
-ghost use Rattle.std.specs.Prelude.{◌≡◌};
+ghost use Rattle.std.specs.Prelude.{◌≡◌, [], ◌∷◌};
 ghost use Rattle.model.specs.Answers.{checked};
 ghost use Rattle.model.specs.Interface.{declare_node_tests, configure_node_tests};
 ghost use Rattle.model.specs.Lifecycle.{begin_node_tests, loading_tests, running_tests, unloading_tests, restoring_tests, retired_tests};
-ghost use Rattle.model.specs.Rows.{node_tests, present_tests};
+ghost use Rattle.model.specs.Interface.{present_tests};
 ghost use Rattle.model.specs.UpdateNode.{blocks};
 
-use model::{Answer, Error, Link, Node, Row};
+use model::{Error, Link, Node, Phase};
 
-// The tests of this row.
-pub fn check(row: Row, node: Node) -> Answer
-    ensures { result ≡ checked (node_tests row node) }
+// One test: the refusal, if it applies.
+#[tactic(auto, unfolding(model::specs::Refusals::first))]
+pub fn refuse_if(applies: bool, error: Error) -> Result<(), Error>
+    ensures { result ≡ checked ((applies, error) ∷ []) }
 {
-    match row {
-        Row::Present => check_present(node),
-        Row::Declare => check_declare(node),
-        Row::Configure => check_configure(node),
-        Row::Begin => check_begin(node),
-        Row::Loading => check_loading(node),
-        Row::Running => check_running(node),
-        Row::Unloading => check_unloading(node),
-        Row::Restoring => check_restoring(node),
-        Row::Retired => check_retired(node),
-    }
+    if applies { Err(error) } else { Ok(()) }
 }
 
 // release_provision and retire: present.
-#[tactic(auto, unfolding(model::specs::Refusals::first))]
-pub fn check_present(node: Node) -> Answer
+pub fn check_present(node: Node) -> Result<(), Error>
     ensures { result ≡ checked (present_tests node) }
 {
-    if !node.present {
-        return Answer::Refused(Error::Unknown);
-    }
-    Answer::Done
+    refuse_if(!node.present, Error::Unknown)
 }
 
 // declare_provision: present, not retired, and Loading, Active or never begun.
 #[tactic(auto, unfolding(model::specs::Refusals::first))]
-pub fn check_declare(node: Node) -> Answer
+pub fn check_declare(node: Node) -> Result<(), Error>
     ensures { result ≡ checked (declare_node_tests node) }
 {
-    if !node.present {
-        return Answer::Refused(Error::Unknown);
-    }
-    if node.retired {
-        return Answer::Refused(Error::Retired);
-    }
-    let phase = node.phase;
-    let running = crate::is_running(phase);
-    if !(running | crate::is_pending(node)) {
-        return Answer::Refused(Error::InvalidState);
-    }
-    Answer::Done
+    refuse_if(!node.present, Error::Unknown)?;
+    refuse_if(node.retired, Error::Retired)?;
+    let open = crate::is_running(node.phase) | crate::is_pending(node);
+    refuse_if(!open, Error::InvalidState)
 }
 
 // configure_pending_dependencies: present, not retired, and never begun.
 #[tactic(auto, unfolding(model::specs::Refusals::first))]
-pub fn check_configure(node: Node) -> Answer
+pub fn check_configure(node: Node) -> Result<(), Error>
     ensures { result ≡ checked (configure_node_tests node) }
 {
-    if !node.present {
-        return Answer::Refused(Error::Unknown);
-    }
-    if node.retired {
-        return Answer::Refused(Error::Retired);
-    }
-    if !crate::is_pending(node) {
-        return Answer::Refused(Error::InvalidState);
-    }
-    Answer::Done
+    refuse_if(!node.present, Error::Unknown)?;
+    refuse_if(node.retired, Error::Retired)?;
+    refuse_if(!crate::is_pending(node), Error::InvalidState)
 }
 
 // begin: present, Inactive, not retired, and with a next generation.
 #[tactic(auto, unfolding(model::specs::Refusals::first))]
-pub fn check_begin(node: Node) -> Answer
+pub fn check_begin(node: Node) -> Result<(), Error>
     ensures { result ≡ checked (begin_node_tests node) }
 {
-    if !node.present {
-        return Answer::Refused(Error::Unknown);
-    }
-    let phase = node.phase;
-    if !crate::is_inactive(phase) {
-        return Answer::Refused(Error::InvalidState);
-    }
-    if node.retired {
-        return Answer::Refused(Error::Retired);
-    }
-    if node.generation == 18446744073709551615 {
-        return Answer::Refused(Error::Capacity);
-    }
-    Answer::Done
+    refuse_if(!node.present, Error::Unknown)?;
+    refuse_if(node.phase != Phase::Inactive, Error::InvalidState)?;
+    refuse_if(node.retired, Error::Retired)?;
+    refuse_if(node.generation == u64::MAX, Error::Capacity)
 }
 
 // check_iteration and finish: present and Loading.
 #[tactic(auto, unfolding(model::specs::Refusals::first))]
-pub fn check_loading(node: Node) -> Answer
+pub fn check_loading(node: Node) -> Result<(), Error>
     ensures { result ≡ checked (loading_tests node) }
 {
-    if !node.present {
-        return Answer::Refused(Error::Unknown);
-    }
-    let phase = node.phase;
-    if !crate::is_loading(phase) {
-        return Answer::Refused(Error::InvalidState);
-    }
-    Answer::Done
+    refuse_if(!node.present, Error::Unknown)?;
+    refuse_if(node.phase != Phase::Loading, Error::InvalidState)
 }
 
 // leave and leave_if_changed: present, and Loading or Active.
 #[tactic(auto, unfolding(model::specs::Refusals::first))]
-pub fn check_running(node: Node) -> Answer
+pub fn check_running(node: Node) -> Result<(), Error>
     ensures { result ≡ checked (running_tests node) }
 {
-    if !node.present {
-        return Answer::Refused(Error::Unknown);
-    }
-    let phase = node.phase;
-    if !crate::is_running(phase) {
-        return Answer::Refused(Error::InvalidState);
-    }
-    Answer::Done
+    refuse_if(!node.present, Error::Unknown)?;
+    refuse_if(!crate::is_running(node.phase), Error::InvalidState)
 }
 
 // begin_cleanup: present, Unloading, and not restoring.
 #[tactic(auto, unfolding(model::specs::Refusals::first))]
-pub fn check_unloading(node: Node) -> Answer
+pub fn check_unloading(node: Node) -> Result<(), Error>
     ensures { result ≡ checked (unloading_tests node) }
 {
-    if !node.present {
-        return Answer::Refused(Error::Unknown);
-    }
-    let phase = node.phase;
-    let unloading = crate::is_unloading(phase);
-    if !(unloading & !node.restoring) {
-        return Answer::Refused(Error::InvalidState);
-    }
-    Answer::Done
+    refuse_if(!node.present, Error::Unknown)?;
+    refuse_if(
+        !((node.phase == Phase::Unloading) & !node.restoring),
+        Error::InvalidState,
+    )
 }
 
 // finish_cleanup: present and restoring.
 #[tactic(auto, unfolding(model::specs::Refusals::first))]
-pub fn check_restoring(node: Node) -> Answer
+pub fn check_restoring(node: Node) -> Result<(), Error>
     ensures { result ≡ checked (restoring_tests node) }
 {
-    if !node.present {
-        return Answer::Refused(Error::Unknown);
-    }
-    if !node.restoring {
-        return Answer::Refused(Error::InvalidState);
-    }
-    Answer::Done
+    refuse_if(!node.present, Error::Unknown)?;
+    refuse_if(!node.restoring, Error::InvalidState)
 }
 
 // remove: present, retired and Inactive.
 #[tactic(auto, unfolding(model::specs::Refusals::first))]
-pub fn check_retired(node: Node) -> Answer
+pub fn check_retired(node: Node) -> Result<(), Error>
     ensures { result ≡ checked (retired_tests node) }
 {
-    if !node.present {
-        return Answer::Refused(Error::Unknown);
-    }
-    let phase = node.phase;
-    let inactive = crate::is_inactive(phase);
-    if !(node.retired & inactive) {
-        return Answer::Refused(Error::InvalidState);
-    }
-    Answer::Done
+    refuse_if(!node.present, Error::Unknown)?;
+    refuse_if(
+        !(node.retired & (node.phase == Phase::Inactive)),
+        Error::InvalidState,
+    )
 }
 
 // update_node: whether this node, written for this identity, would leave a live link without its consumer or its provider.
@@ -174,9 +111,7 @@ pub fn check_retired(node: Node) -> Answer
 pub fn blocks(id: usize, node: Node, link: Link) -> bool
     ensures { result ≡ blocks id node link }
 {
-    let phase = node.phase;
-    let inactive = crate::is_inactive(phase);
-    let idle = !node.present | inactive;
+    let idle = !node.present | (node.phase == Phase::Inactive);
     let consumes = (crate::consumer_in(link) == id) & idle;
     let serves = (crate::provider_in(link) == id) & (idle | node.restoring);
     link.live & (consumes | serves)

@@ -9,10 +9,10 @@ pub mod stored;
 pub mod tests;
 pub mod transitions;
 
-pub use answers::{answer_number, error_number, insert_answer_number};
-pub use checks::{blocks, check};
-pub use phases::{is_active, is_inactive, is_loading, is_running, is_unloading};
-pub use ports::{binding_of, blank_binding, blank_port, port_of, same_port};
+pub use answers::answer_number;
+pub use checks::{blocks, refuse_if};
+pub use phases::is_running;
+pub use ports::{binding_of, blank_binding, blank_port};
 pub use stored::{
     binding_in, blank_declaration, blank_link, blank_node, consumer_in, dead_for, dead_link,
     declaration_of, declared_port, either_declaration, either_link, is_blank_declaration,
@@ -24,6 +24,4 @@ pub use tests::{
     is_live_link_of, is_pending, is_providing, is_restoring, is_serving, links_to, must_leave,
     no_parent, relies_on,
 };
-pub use transitions::{
-    absent_node, changed, restored_node, restoring_node, retired_node, started_node,
-};
+pub use transitions::{absent_node, restored_node, restoring_node, retired_node, started_node};

@@ -23,8 +23,7 @@ fn stored_parent(parent: Parent) -> StoredParent
 pub fn parent_in(node: Node) -> Parent
     ensures { result ≡ parent_in node }
 {
-    let stored = node.parent;
-    match stored {
+    match node.parent {
         StoredParent::None => Parent::None,
         StoredParent::Of(p) => Parent::Of(p as usize),
     }
@@ -76,13 +75,12 @@ pub fn binding_in(link: Link) -> Binding
 pub fn new_node(parent: Parent) -> Node
     ensures { result ≡ new_node (byte_parent parent) }
 {
-    let stored = stored_parent(parent);
     Node {
         present: true,
         retired: false,
         phase: Phase::Inactive,
         restoring: false,
-        parent: stored,
+        parent: stored_parent(parent),
         generation: 0,
     }
 }
@@ -90,15 +88,7 @@ pub fn new_node(parent: Parent) -> Node
 pub fn with_phase(phase: Phase, node: Node) -> Node
     ensures { result ≡ with_phase phase node }
 {
-    let parent = node.parent;
-    Node {
-        present: node.present,
-        retired: node.retired,
-        phase: phase,
-        restoring: node.restoring,
-        parent: parent,
-        generation: node.generation,
-    }
+    Node { phase, ..node }
 }
 
 // A provision or a dependency.
@@ -106,9 +96,9 @@ pub fn declaration_of(owner: usize, provides: bool, port: Port) -> Declaration
     ensures { result ≡ declaration_of (byte_of owner) provides port }
 {
     Declaration {
-        port: port,
+        port,
         owner: byte_of(owner),
-        provides: provides,
+        provides,
     }
 }
 
@@ -125,7 +115,7 @@ pub fn live_link(consumer: usize, binding: Binding, generation: u64) -> Link
     Link {
         key: binding.key,
         realm: binding.realm,
-        generation: generation,
+        generation,
         consumer: byte_of(consumer),
         provider: byte_of(binding.provider),
         live: true,
@@ -136,8 +126,7 @@ pub fn live_link(consumer: usize, binding: Binding, generation: u64) -> Link
 pub fn dead_for(consumer: usize, mut link: Link) -> Link
     ensures { result ≡ dead_for consumer link }
 {
-    let own = consumer_in(link) == consumer;
-    link.live = link.live & !own;
+    link.live &= consumer_in(link) != consumer;
     link
 }
 
@@ -166,7 +155,7 @@ pub fn blank_declaration() -> Declaration
     ensures { result ≡ blank_declaration }
 {
     Declaration {
-        port: Port { key: 0, realm: 0 },
+        port: crate::blank_port(),
         owner: 0,
         provides: false,
     }
@@ -188,18 +177,15 @@ pub fn blank_link() -> Link
 pub fn is_blank_node(node: Node) -> bool
     ensures { result ≡ is_blank_node node }
 {
-    let phase = node.phase;
-    let parent = parent_in(node);
-    let inactive = crate::is_inactive(phase);
-    let none = crate::no_parent(parent);
-    !node.present & !node.retired & inactive & !node.restoring & none & (node.generation == 0)
+    let inactive = node.phase == Phase::Inactive;
+    let parentless = crate::no_parent(parent_in(node));
+    !node.present & !node.retired & inactive & !node.restoring & parentless & (node.generation == 0)
 }
 
 pub fn is_blank_declaration(declaration: Declaration) -> bool
     ensures { result ≡ is_blank_declaration declaration }
 {
-    let port = declaration.port;
-    (declaration.owner == 0) & (port.key == 0) & (port.realm == 0) & !declaration.provides
+    (declaration.owner == 0) & (declaration.port == crate::blank_port()) & !declaration.provides
 }
 
 pub fn is_blank_link(link: Link) -> bool
@@ -214,12 +200,10 @@ pub fn is_blank_link(link: Link) -> bool
 pub fn either_declaration(a: Declaration, b: Declaration) -> Declaration
     ensures { is_blank_declaration result ≡ is_blank_declaration a && is_blank_declaration b }
 {
-    let p = a.port;
-    let q = b.port;
     Declaration {
         port: Port {
-            key: p.key | q.key,
-            realm: p.realm | q.realm,
+            key: a.port.key | b.port.key,
+            realm: a.port.realm | b.port.realm,
         },
         owner: a.owner | b.owner,
         provides: a.provides | b.provides,

@@ -6,43 +6,34 @@ ghost use Rattle.model.specs.Records.{has_parent, is_child_of, is_consistent, is
 ghost use Rattle.model.specs.Resolution.{is_dependency_of, is_live_link_of};
 ghost use Rattle.model.specs.Soundness.{is_declaration, links_to};
 
-use model::{Declaration, Link, Node, Parent, Port};
+use model::{Declaration, Link, Node, Parent, Phase, Port};
 
 pub fn no_parent(parent: Parent) -> bool
     ensures { result ≡ no_parent parent }
 {
-    match parent {
-        Parent::None => true,
-        Parent::Of(_) => false,
-    }
+    parent == Parent::None
 }
 
 pub fn has_parent(id: usize, parent: Parent) -> bool
     ensures { result ≡ has_parent id parent }
 {
-    match parent {
-        Parent::None => false,
-        Parent::Of(p) => p == id,
-    }
+    parent == Parent::Of(id)
 }
 
 // Never begun: Inactive with generation 0.
 pub fn is_pending(node: Node) -> bool
     ensures { result ≡ is_pending node }
 {
-    let phase = node.phase;
-    let inactive = crate::is_inactive(phase);
-    inactive & (node.generation == 0)
+    (node.phase == Phase::Inactive) & (node.generation == 0)
 }
 
 // An absent node is Inactive and not restoring; a restoring node is present and Unloading.
 pub fn is_consistent(node: Node) -> bool
     ensures { result ≡ is_consistent node }
 {
-    let phase = node.phase;
-    let inactive = crate::is_inactive(phase);
-    let unloading = crate::is_unloading(phase);
-    let absent = (!!node.present | inactive) & (!!node.present | !node.restoring);
+    let inactive = node.phase == Phase::Inactive;
+    let unloading = node.phase == Phase::Unloading;
+    let absent = (node.present | inactive) & (node.present | !node.restoring);
     absent & (!node.restoring | node.present) & (!node.restoring | unloading)
 }
 
@@ -50,53 +41,42 @@ pub fn is_consistent(node: Node) -> bool
 pub fn is_child_of(id: usize, node: Node) -> bool
     ensures { result ≡ is_child_of id node }
 {
-    let parent = crate::parent_in(node);
-    let child = has_parent(id, parent);
-    node.present & child
+    node.present & has_parent(id, crate::parent_in(node))
 }
 
 // Present and not Inactive.
 pub fn is_installed(node: Node) -> bool
     ensures { result ≡ is_installed node }
 {
-    let phase = node.phase;
-    let inactive = crate::is_inactive(phase);
-    node.present & !inactive
+    node.present & (node.phase != Phase::Inactive)
 }
 
 // Installed and not restoring: it may be a live link's provider.
 pub fn is_serving(node: Node) -> bool
     ensures { result ≡ is_serving node }
 {
-    let phase = node.phase;
-    let inactive = crate::is_inactive(phase);
-    node.present & !inactive & !node.restoring
+    is_installed(node) & !node.restoring
 }
 
 // Present and Loading or Active: a drain makes it leave.
 pub fn must_leave(node: Node) -> bool
     ensures { result ≡ must_leave node }
 {
-    let phase = node.phase;
-    let running = crate::is_running(phase);
-    node.present & running
+    node.present & crate::is_running(node.phase)
 }
 
 // Installed and restoring.
 pub fn is_restoring(node: Node) -> bool
     ensures { result ≡ is_restoring node }
 {
-    let installed = is_installed(node);
-    installed & node.restoring
+    is_installed(node) & node.restoring
 }
 
 // Present and Active: resolve may find it.
 pub fn is_providing(node: Node) -> bool
     ensures { result ≡ is_providing node }
 {
-    let phase = node.phase;
-    let active = crate::is_active(phase);
-    node.present & active
+    node.present & (node.phase == Phase::Active)
 }
 
 // A declaration of this owner and port, a provision or a dependency.
@@ -104,9 +84,9 @@ pub fn is_providing(node: Node) -> bool
 pub fn is_declaration(owner: usize, port: Port, provides: bool, declaration: Declaration) -> bool
     ensures { result ≡ is_declaration owner port provides declaration }
 {
-    let declared = crate::declared_port(declaration);
-    let same = crate::same_port(declared, port);
-    (crate::owner_in(declaration) == owner) & same & (declaration.provides == provides)
+    (crate::owner_in(declaration) == owner)
+        & (declaration.port == port)
+        & (declaration.provides == provides)
 }
 
 // A dependency of this component.
@@ -130,9 +110,7 @@ pub fn is_live_link_of(id: usize, link: Link) -> bool
 pub fn links_to(consumer: usize, port: Port, link: Link) -> bool
     ensures { result ≡ links_to consumer port link }
 {
-    let linked = crate::port_in(link);
-    let same = crate::same_port(linked, port);
-    link.live & (crate::consumer_in(link) == consumer) & same
+    link.live & (crate::consumer_in(link) == consumer) & (crate::port_in(link) == port)
 }
 
 // A live link with this provider and port.
@@ -140,7 +118,5 @@ pub fn links_to(consumer: usize, port: Port, link: Link) -> bool
 pub fn relies_on(id: usize, port: Port, link: Link) -> bool
     ensures { result ≡ relies_on id port link }
 {
-    let linked = crate::port_in(link);
-    let same = crate::same_port(linked, port);
-    link.live & (crate::provider_in(link) == id) & same
+    link.live & (crate::provider_in(link) == id) & (crate::port_in(link) == port)
 }

@@ -1,8 +1,10 @@
 // Plays logs of commands: an answer on a line for each command, then the tables, then a line for each present component.
 #![tactic(auto)]
 
-use std::io::Read;
-use text::logs::{argument, argument_count, open, read_full, reads_on};
+use std::io::{self, BufWriter, Read, Write};
+use text::logs::{argument, argument_count, heading, open, read_full, reads_on};
+use text::status::Status;
+use text::stored::Tables;
 
 fn cannot_read(rt: &HostRuntime, name: &[u8]) {
     let stderr = rt.stderr();
@@ -11,55 +13,41 @@ fn cannot_read(rt: &HostRuntime, name: &[u8]) {
     let _ = stderr.write_all(b"\n");
 }
 
-// Writes a line for each of the first answers.
-fn write_answers(rt: &HostRuntime, answers: &[u8], count: usize) {
-    let mut lines = player::lines_buffer();
-    let n = player::lines(&mut lines, answers, count);
-    text::flush(rt, &lines, n);
-}
-
 // Plays the first 65,536 bytes of what is open.
-fn replay(rt: &HostRuntime, file: &mut impl Read, name: &[u8]) {
-    let mut log = [0u8; 65536];
+fn replay(rt: &HostRuntime, file: &mut impl Read, name: &[u8]) -> io::Result<()> {
+    let mut log = [0; 65536];
     let n = read_full(file, &mut log);
     if !reads_on(file) {
-        return cannot_read(rt, name);
+        cannot_read(rt, name);
+        return Ok(());
     }
-    let mut given = [0u8; 65536];
-    let played = player::play(player::start(), &log[..n], &mut given);
-    let kernel = played.kernel;
-    write_answers(rt, &given, played.answered);
-    let mut out = [0u8; 65536];
-    let at = text::stored::tables(rt, &mut out, 0, kernel);
-    let at = text::status::components(rt, &mut out, at, kernel);
-    text::flush(rt, &out, at);
+    let mut answers = [0; 65536];
+    let played = player::play(player::start(), &log[..n], &mut answers);
+    let mut out = BufWriter::with_capacity(rt.alloc(), 65536, io::writer(rt))?;
+    for (count, answer) in answers.iter().take(played.answered).enumerate() {
+        writeln!(out, "{count} {answer}")?;
+    }
+    write!(out, "{}{}", Tables(&played.kernel), Status(&played.kernel))?;
+    out.flush()
 }
 
-// A line with the name, then its log.
-fn replay_file(rt: &HostRuntime, name: &[u8]) {
+fn replay_file(rt: &HostRuntime, name: &[u8]) -> io::Result<()> {
     let Some(mut file) = open(rt, name) else {
-        return cannot_read(rt, name);
+        cannot_read(rt, name);
+        return Ok(());
     };
-    let _ = rt.write_all(b"== ");
-    let _ = rt.write_all(name);
-    let _ = rt.write_all(b"\n");
-    replay(rt, &mut file, name);
+    heading(rt, name);
+    replay(rt, &mut file, name)
 }
 
-fn replay_argument(rt: &HostRuntime, i: usize) {
-    let mut name = [0u8; 4096];
-    let n = argument(rt, i, &mut name);
-    replay_file(rt, &name[..n]);
-}
-
+// A write that fails is passed over.
 fn main(rt: HostRuntime) {
     let count = argument_count(&rt);
     if count < 2 {
-        replay(&rt, &mut rt.stdin(), b"standard input");
+        let _ = replay(&rt, &mut rt.stdin(), b"standard input");
     }
-    let mut i = 1;
-    while i < count {
-        replay_argument(&rt, i);
-        i += 1;
+    for i in 1..count {
+        let mut name = [0; 4096];
+        let _ = replay_file(&rt, argument(&rt, i, &mut name));
     }
 }

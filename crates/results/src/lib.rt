@@ -1,7 +1,7 @@
 // What ids, children, target and committed return: lists in arrays with a count.
 #![tactic(auto)]
 
-use model::{Binding, OptionUnresolved};
+use model::Binding;
 use sizes::{DECLARATIONS, IDENTITIES, LINKS};
 
 // Identities in order, and how many; 0 past the count.
@@ -11,13 +11,12 @@ pub struct Identities {
     pub count: usize,
 }
 
-// The bindings of a target and how many, blank past the count; whether there is a target; the first dependency that is missing.
+// The bindings of a target and how many, blank past the count. target answers Result<TargetBindings, Option<Unresolved>>: where there is none, the first
+// dependency that is missing, if that is why.
 #[derive(Clone, Copy)]
 pub struct TargetBindings {
     pub bindings: [Binding; DECLARATIONS],
     pub count: usize,
-    pub there: bool,
-    pub missing: OptionUnresolved,
 }
 
 // The bindings of a consumer's live links and how many, blank past the count.

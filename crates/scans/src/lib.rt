@@ -1,20 +1,20 @@
-// The loops that read a kernel's tables. A table of records comes by value, once a call; what a loop calls is lent columns or gets single records.
+// What is read off a kernel's tables. A table comes as a slice, its entries below the count; a test comes as a function of one record.
 #![tactic(auto)]
+
+ghost use Rattle.std.specs.Prelude.{◌≡◌};
+ghost use Rattle.loops.specs.Columns.{flag};
+ghost use Rattle.sizes.specs.Sizes.{IDENTITIES};
 
 use sizes::IDENTITIES;
 
-mod columns;
 pub mod declarations;
-mod limits;
 mod nodes;
 mod resolution;
 mod updates;
 
-pub use columns::declaration_columns;
 pub use declarations::{check_provisions, declares_in, relies_on, remaining_in, taken_in};
-pub use limits::flag_at;
-pub use nodes::{child_flags, node_flags, places_of};
-pub use resolution::{committed_in, link_generation_in, no_target, resolve_table, target_table};
+pub use nodes::{child_flags, has_child, node_flags, places_of};
+pub use resolution::{committed_in, link_generation_in, resolve_table, target_table};
 pub use updates::update_node;
 
 // Of each identity: whether its node is present, and whether it is present and Active.
@@ -22,4 +22,11 @@ pub use updates::update_node;
 pub struct NodeFlags {
     pub present: [bool; IDENTITIES],
     pub providing: [bool; IDENTITIES],
+}
+
+// The yes/no of an identity; no past the last.
+pub fn flag_at(flags: &[bool; IDENTITIES], id: usize) -> bool
+    ensures { result ≡ flag IDENTITIES flags.now id }
+{
+    id < IDENTITIES && flags[id]
 }

@@ -2,79 +2,53 @@
 // with its answer, then the tables.
 #![tactic(auto)]
 
-use drain::Drain;
-use model::Step;
 use player::Player;
 use sizes::STEPS;
-use text::logs::{argument, argument_count, last_answer, read_log, tell};
-use text::steps::step;
-use text::{end, field};
-
-// A command of the drain, and its answer.
-fn answered(rt: &HostRuntime, out: &mut [u8], at: usize, command: Step, answer: u8) -> usize {
-    let at = step(out, at, command);
-    let at = field(out, at, answer as u64);
-    end(rt, out, at)
-}
-
-// A line for each step that was answered.
-fn lines(rt: &HostRuntime, out: &mut [u8], drain: Drain, answers: &[u8], count: usize) -> usize {
-    let steps = drain.steps;
-    let last = loops::at_most(loops::at_most(count, answers.len()), STEPS);
-    let mut at = 0;
-    let mut i = 0;
-    while i < last {
-        at = answered(rt, out, at, steps[i], answers[i]);
-        i += 1;
-    }
-    at
-}
+use std::io::{self, BufWriter, Write};
+use text::logs::{About, argument, argument_count, last_answer, read_log};
+use text::stored::Tables;
 
 // The drain of the player's kernel, played and written.
-fn drained(rt: &HostRuntime, player: Player) {
-    let kernel = player.kernel;
-    let drain = drain::drain(kernel);
-    let mut answers = [0u8; STEPS];
-    let played = player::play_drain(player, drain, &mut answers);
-    let kernel = played.kernel;
-    let mut out = [0u8; 65536];
-    let at = lines(rt, &mut out, drain, &answers, played.answered);
-    let at = text::stored::tables(rt, &mut out, at, kernel);
-    text::flush(rt, &out, at);
+fn drained(rt: &HostRuntime, player: Player) -> io::Result<()> {
+    let mut out = BufWriter::with_capacity(rt.alloc(), 65536, io::writer(rt))?;
+    let mut kernel = player.kernel;
+    if let Ok(drain) = drain::drain(&kernel) {
+        let mut answers = [0; STEPS];
+        let played = player::play_drain(player, drain, &mut answers);
+        for (step, answer) in drain.steps.iter().zip(&answers).take(played.answered) {
+            writeln!(out, "{step} {answer}")?;
+        }
+        kernel = played.kernel;
+    }
+    write!(out, "{}", Tables(&kernel))?;
+    out.flush()
 }
 
 // The first 65,536 bytes of a file, as far as they can be read, played and drained; of a file that cannot be opened nothing is.
-fn stop_file(rt: &HostRuntime, name: &[u8]) {
-    let mut log = [0u8; 65536];
-    let read = read_log(rt, name, &mut log);
-    let n = read.count;
-    let mut answers = [0u8; 65536];
-    let played = player::play(player::start(), &log[0..n], &mut answers);
-    tell(
+fn stop(rt: &HostRuntime, name: &[u8]) -> io::Result<()> {
+    let program = "stop";
+    let about = About { program, name };
+    let mut log = [0; 65536];
+    let Some(read) = read_log(rt, name, &mut log) else {
+        about.tell_unopened(rt.stderr(), " was not played, and nothing is drained");
+        return Ok(());
+    };
+    let mut answers = [0; 65536];
+    let played = player::play(player::start(), read.bytes, &mut answers);
+    let last = last_answer(&answers, played.answered);
+    about.tell(
         rt.stderr(),
-        b"stop",
-        name,
         read,
-        last_answer(&answers, played.answered),
-        b" is drained as far as it was played",
-        b" was not played, and nothing is drained",
+        last,
+        " is drained as far as it was played",
     );
-    if read.opened {
-        drained(rt, played);
-    }
+    drained(rt, played)
 }
 
-fn stop_argument(rt: &HostRuntime, i: usize) {
-    let mut name = [0u8; 4096];
-    let n = argument(rt, i, &mut name);
-    stop_file(rt, &name[..n]);
-}
-
+// A write that fails is passed over.
 fn main(rt: HostRuntime) {
-    let count = argument_count(&rt);
-    let mut i = 1;
-    while i < count {
-        stop_argument(&rt, i);
-        i += 1;
+    for i in 1..argument_count(&rt) {
+        let mut name = [0; 4096];
+        let _ = stop(&rt, argument(&rt, i, &mut name));
     }
 }

@@ -1,2 +1,3 @@
 -- Laws of text in a buffer.
+pub mod Shown
 pub mod Written

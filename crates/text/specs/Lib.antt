@@ -1,4 +1,6 @@
 pub mod Logs
 pub mod Made
+pub mod Operands
+pub mod Shown
 pub mod Words
 pub mod Written

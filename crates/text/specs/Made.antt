@@ -9,6 +9,7 @@ use Rattle.model.specs.declared.records.Link.{Link}
 use Rattle.model.specs.declared.records.Node.{Node}
 use Rattle.model.specs.Records.{binding_of, blank_port, byte_of, byte_parent, declaration_of, link_of, parent_in}
 use Rattle.model.specs.Sizes.{list_limit}
+use Rattle.text.specs.Operands.{has_dash, operand}
 use Rattle.text.specs.declared.words.Line.{Line}
 
 -- an operand that is a yes/no: 1 for yes
@@ -27,20 +28,20 @@ port_for key realm = record { key = key; realm = realm }
 
 -- PLACE PRESENT RETIRED PHASE RESTORING PARENT GENERATION: every field of the node
 pub record NodeFor (line : Line) (node : Node) : Type 0 where
-  pub present : node.present ≡ is_yes line.second
-  pub retired : node.retired ≡ is_yes line.third
-  pub phase : node.phase ≡ phase_at line.fourth
-  pub restoring : node.restoring ≡ is_yes line.fifth
-  pub parent : parent_in node ≡ byte_parent (parent_of line.none line.sixth)
-  pub generation : node.generation ≡ line.seventh
+  pub present : node.present ≡ is_yes (operand line 1)
+  pub retired : node.retired ≡ is_yes (operand line 2)
+  pub phase : node.phase ≡ phase_at (operand line 3)
+  pub restoring : node.restoring ≡ is_yes (operand line 4)
+  pub parent : parent_in node ≡ byte_parent (parent_of (has_dash line) (operand line 5))
+  pub generation : node.generation ≡ operand line 6
 
 -- PLACE OWNER KEY REALM PROVIDES
 abbrev pub declaration_for : Line → Declaration
-declaration_for line = declaration_of (byte_of line.second) (is_yes line.fifth) (port_for line.third line.fourth)
+declaration_for line = declaration_of (byte_of (operand line 1)) (is_yes (operand line 4)) (port_for (operand line 2) (operand line 3))
 
 -- PLACE CONSUMER KEY REALM PROVIDER LIVE GENERATION
 abbrev pub link_for : Line → Link
-link_for line = link_of (byte_of line.second) (binding_of (port_for line.third line.fourth) (byte_of line.fifth)) line.seventh (is_yes line.sixth)
+link_for line = link_of (byte_of (operand line 1)) (binding_of (port_for (operand line 2) (operand line 3)) (byte_of (operand line 4))) (operand line 6) (is_yes (operand line 5))
 
 -- a key, so many steps on; past the largest number it wraps
 unfoldable pub stepped : ℕ → ℕ → ℕ → ℕ

@@ -1,157 +1,126 @@
-// What commands, checks and observers answer, each part after a space.
-ghost use Rattle.std.specs.Prelude.{◌≤◌, length};
-
-use crate::{bytes, field, number, stored};
-use model::{Binding, Error, OptionGeneration, OptionPhase, OptionUnresolved, Resolution};
+// What commands, checks and observers answer, in words.
+use model::{Error, Unresolved};
 use results::{CommittedBindings, Identities, TargetBindings};
 use sizes::{DECLARATIONS, IDENTITIES, LINKS};
+use std::fmt;
 
-// Of a command or a check: 0 is done, any other number a refusal.
-pub fn answer(out: &mut [u8], at: usize, number: u8) -> usize
-    ensures { result ≤ length out.old }
-{
-    if number == 0 {
-        return bytes(out, at, b" done");
-    }
-    let at = bytes(out, at, b" refused");
-    field(out, at, number as u64)
-}
+// A command's or a check's answer: done, or refused with the refusal's number.
+#[derive(Drop)]
+pub struct Reply<'a, T>(pub &'a Result<T, Error>);
 
-// A refusal's name.
-fn name(out: &mut [u8], at: usize, error: Error) -> usize
-    ensures { result ≤ length out.old }
-{
-    match error {
-        Error::Unknown => bytes(out, at, b" Unknown"),
-        Error::InvalidState => bytes(out, at, b" InvalidState"),
-        Error::Retired => bytes(out, at, b" Retired"),
-        Error::MissingDependency => bytes(out, at, b" MissingDependency"),
-        Error::Conflict => bytes(out, at, b" Conflict"),
-        Error::Changed => bytes(out, at, b" Changed"),
-        Error::Relied => bytes(out, at, b" Relied"),
-        Error::Children => bytes(out, at, b" Children"),
-        Error::Capacity => bytes(out, at, b" Capacity"),
-        Error::Damaged => bytes(out, at, b" Damaged"),
-    }
-}
+impl<T> fmt::Display for Reply<'_, T> {
+    ghost use Rattle.std.specs.Prelude.{Some};
+    ghost use Rattle.text.specs.Shown.{reply_text};
 
-// A refusal at the start of a line: its number and its name.
-pub fn refusal(out: &mut [u8], at: usize, error: Error) -> usize
-    ensures { result ≤ length out.old }
-{
-    let at = bytes(out, at, b"refused");
-    let at = field(out, at, records::error_number(error) as u64);
-    name(out, at, error)
-}
+    ghost output = { λ r. Some (reply_text r.0.now) };
 
-pub fn phase(out: &mut [u8], at: usize, answer: OptionPhase) -> usize
-    ensures { result ≤ length out.old }
-{
-    match answer {
-        OptionPhase::Some(now) => stored::phase(out, at, now),
-        OptionPhase::None => bytes(out, at, b" none"),
-    }
-}
-
-pub fn generation(out: &mut [u8], at: usize, answer: OptionGeneration) -> usize
-    ensures { result ≤ length out.old }
-{
-    match answer {
-        OptionGeneration::Some(generation) => field(out, at, generation),
-        OptionGeneration::None => bytes(out, at, b" none"),
-    }
-}
-
-pub fn resolution(out: &mut [u8], at: usize, answer: Resolution) -> usize
-    ensures { result ≤ length out.old }
-{
-    match answer {
-        Resolution::Provider(id) => field(out, at, id as u64),
-        Resolution::NotActive(id) => {
-            let at = bytes(out, at, b" not active");
-            field(out, at, id as u64)
+    fn fmt<W: fmt::Write>(&self, f: &mut fmt::Formatter<W>) -> fmt::Result {
+        match self.0 {
+            Ok(_) => f.write_str("done"),
+            Err(error) => write!(f, "refused {}", u8::from(*error)),
         }
-        Resolution::NoOwner => bytes(out, at, b" no owner"),
     }
 }
 
-// KEY/REALM@PROVIDER.
-fn binding(out: &mut [u8], at: usize, binding: Binding) -> usize
-    ensures { result ≤ length out.old }
-{
-    let at = field(out, at, binding.key);
-    let at = bytes(out, at, b"/");
-    let at = number(out, at, binding.realm);
-    let at = bytes(out, at, b"@");
-    number(out, at, binding.provider as u64)
+// A refusal with its number and its name.
+#[derive(Clone, Copy)]
+pub struct RefusedLine(pub Error);
+
+impl fmt::Display for RefusedLine {
+    ghost use Rattle.std.specs.Prelude.{Some};
+    ghost use Rattle.text.specs.Shown.{refused_line};
+
+    ghost output = { λ r. Some (refused_line r.0) };
+
+    fn fmt<W: fmt::Write>(&self, f: &mut fmt::Formatter<W>) -> fmt::Result {
+        let error = self.0;
+        write!(f, "refused {} {error}", u8::from(error))
+    }
 }
 
-// No target; and the dependency that is missing, if one is named: KEY/REALM and what looking it up answered.
-fn no_target(out: &mut [u8], at: usize, missing: OptionUnresolved) -> usize
-    ensures { result ≤ length out.old }
-{
-    let OptionUnresolved::Some(unresolved) = missing else {
-        return bytes(out, at, b" none");
-    };
-    let port = unresolved.port;
-    let found = unresolved.found;
-    let at = bytes(out, at, b" none,");
-    let at = field(out, at, port.key);
-    let at = bytes(out, at, b"/");
-    let at = number(out, at, port.realm);
-    resolution(out, at, found)
+// What there is, or none.
+#[derive(Clone, Copy)]
+pub struct OrNone<T>(pub Option<T>);
+
+impl<T: fmt::Display> fmt::Display for OrNone<T> {
+    ghost use Rattle.text.specs.Shown.{or_none};
+
+    ghost output = { λ o. or_none T.output o.0 };
+
+    fn fmt<W: fmt::Write>(&self, f: &mut fmt::Formatter<W>) -> fmt::Result {
+        match &self.0 {
+            Some(there) => write!(f, "{there}"),
+            None => f.write_str("none"),
+        }
+    }
 }
 
-// What is said of a list before its members.
-fn list(out: &mut [u8], at: usize, count: usize) -> usize
-    ensures { result ≤ length out.old }
-{
-    if count == 0 {
-        return bytes(out, at, b" empty");
+// Members with a space between, or empty.
+#[derive(Clone, Copy)]
+pub struct List<'a, T>(pub &'a [T]);
+
+impl<T: fmt::Display> fmt::Display for List<'_, T> {
+    ghost use Rattle.text.specs.Shown.{list_text};
+
+    ghost output = { λ l. list_text T.output l.0.now };
+
+    fn fmt<W: fmt::Write>(&self, f: &mut fmt::Formatter<W>) -> fmt::Result {
+        let [first, rest @ ..] = self.0 else {
+            return f.write_str("empty");
+        };
+        write!(f, "{first}")?;
+        for member in rest {
+            write!(f, " {member}")?;
+        }
+        Ok(())
     }
-    loops::at_most(at, out.len())
 }
 
-pub fn identities(out: &mut [u8], at: usize, answer: Identities) -> usize
-    ensures { result ≤ length out.old }
-{
-    let end = loops::at_most(answer.count, IDENTITIES);
-    let mut at = list(out, at, end);
-    let mut i = 0;
-    while i < end {
-        let id = answer.ids[i];
-        at = field(out, at, id as u64);
-        i += 1;
+#[derive(Clone, Copy)]
+pub struct Ids<'a>(pub &'a Identities);
+
+impl fmt::Display for Ids<'_> {
+    ghost use Rattle.text.specs.Shown.{ids_text};
+
+    ghost output = { λ l. ids_text l.0.now };
+
+    fn fmt<W: fmt::Write>(&self, f: &mut fmt::Formatter<W>) -> fmt::Result {
+        let end = self.0.count.min(IDENTITIES);
+        write!(f, "{}", List(&self.0.ids[..end]))
     }
-    at
 }
 
-pub fn target(out: &mut [u8], at: usize, answer: TargetBindings) -> usize
-    ensures { result ≤ length out.old }
-{
-    let missing = answer.missing;
-    if !answer.there {
-        return no_target(out, at, missing);
+#[derive(Clone, Copy)]
+pub struct Committed<'a>(pub &'a CommittedBindings);
+
+impl fmt::Display for Committed<'_> {
+    ghost use Rattle.text.specs.Shown.{committed_text};
+
+    ghost output = { λ l. committed_text l.0.now };
+
+    fn fmt<W: fmt::Write>(&self, f: &mut fmt::Formatter<W>) -> fmt::Result {
+        let end = self.0.count.min(LINKS);
+        write!(f, "{}", List(&self.0.bindings[..end]))
     }
-    let end = loops::at_most(answer.count, DECLARATIONS);
-    let mut at = list(out, at, end);
-    let mut i = 0;
-    while i < end {
-        at = binding(out, at, answer.bindings[i]);
-        i += 1;
-    }
-    at
 }
 
-pub fn committed(out: &mut [u8], at: usize, answer: CommittedBindings) -> usize
-    ensures { result ≤ length out.old }
-{
-    let end = loops::at_most(answer.count, LINKS);
-    let mut at = list(out, at, end);
-    let mut i = 0;
-    while i < end {
-        at = binding(out, at, answer.bindings[i]);
-        i += 1;
+// What target answers: the bindings, or none, and then which dependency is missing, if one is named.
+#[derive(Clone, Copy)]
+pub struct Target<'a>(pub &'a Result<TargetBindings, Option<Unresolved>>);
+
+impl fmt::Display for Target<'_> {
+    ghost use Rattle.text.specs.Shown.{target_text};
+
+    ghost output = { λ t. target_text t.0.now };
+
+    fn fmt<W: fmt::Write>(&self, f: &mut fmt::Formatter<W>) -> fmt::Result {
+        match self.0 {
+            Ok(found) => {
+                let end = found.count.min(DECLARATIONS);
+                write!(f, "{}", List(&found.bindings[..end]))
+            }
+            Err(Some(missing)) => write!(f, "none, {} {}", missing.port, missing.found),
+            Err(None) => f.write_str("none"),
+        }
     }
-    at
 }

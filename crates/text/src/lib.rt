@@ -1,44 +1,94 @@
-// Text gathered in a buffer and written when little of it is free: numbers, records, tables and answers; and lines read.
-// Each function that writes gives the place after what it put, at most the length; a byte past the end is left out.
+// Text for the programs: answers, explanations, tables and a kernel's status as Display, bytes gathered in a buffer; and a log's file and lines of words read.
 #![tactic(auto)]
 
-ghost use Rattle.std.specs.Prelude.{◌≡◌, ◌≤◌, ◌∷◌, drop, length};
+ghost use Rattle.std.specs.Prelude.{◌≡◌, ◌≤◌, ◌+◌, ◌∷◌, drop, length, take};
 ghost use Rattle.text.specs.Written.{Puts, decimal};
 
+use std::fmt::{self, Write};
+
 pub mod answers;
+pub mod asked;
 pub mod explanations;
 pub mod logs;
 pub mod made;
 pub mod status;
-pub mod steps;
 pub mod stored;
 pub mod words;
 
-// Writes what is gathered; the next place is the start. A write that fails is passed over.
-pub fn flush(rt: &impl Print, out: &[u8], at: usize) -> usize
-    ensures { result ≡ 0 }
-{
-    if at <= out.len() {
-        let _ = rt.write_all(&out[0..at]);
-    }
-    0
+// Lent bytes, gathered from the front: what is put stands behind what was put before, and what is past the end is left out.
+#[derive(Drop)]
+pub struct Text<'a> {
+    bytes: &'a mut [u8],
+    len: usize,
+    ghost within: { len ≤ length bytes.now },
 }
 
-pub fn bytes(out: &mut [u8], at: usize, bytes: &[u8]) -> usize
-    ensures upper_bound { result ≤ length out.old }
-    ensures puts { Puts bytes.now out.old at out.new result }
-{
-    let mut at = loops::at_most(at, out.len());
-    let mut i = 0;
-    while i < bytes.len() {
-        if out.len() <= at {
-            break;
-        }
-        out[at] = bytes[i];
-        at += 1;
-        i += 1;
+impl<'a> Text<'a> {
+    pub fn new(bytes: &'a mut [u8]) -> Text<'a>
+        ensures same_reference { result.bytes.ghost_name ≡ bytes.entry.ghost_name }
+        ensures same { result.bytes.now ≡ bytes.old }
+        ensures empty { result.len ≡ 0 }
+    {
+        Text { bytes, len: 0 }
     }
-    at
+
+    // How many bytes are put.
+    pub fn len(&self) -> usize
+        ensures { result ≡ self.now.len }
+    {
+        self.len
+    }
+
+    // What is put.
+    pub fn as_bytes(&self) -> &[u8]
+        ensures { result.now ≡ take self.now.len self.now.bytes.now }
+    {
+        &self.bytes[..self.len]
+    }
+
+    // How many more have room.
+    pub fn free(&self) -> usize
+        ensures { result + self.now.len ≡ length self.now.bytes.now }
+    {
+        self.bytes.len() - self.len
+    }
+
+    pub fn put(&mut self, bytes: &[u8])
+        ensures same_reference { self.new.bytes.ghost_name ≡ self.old.bytes.ghost_name }
+        ensures puts { Puts bytes.now self.old.bytes.now self.old.len self.new.bytes.now self.new.len }
+    {
+        let end = self.len + bytes.len().min(self.bytes.len() - self.len);
+        self.bytes[self.len..end].copy_from_slice(&bytes[..end - self.len]);
+        self.len = end;
+    }
+
+    pub fn number(&mut self, n: u64)
+        ensures same_reference { self.new.bytes.ghost_name ≡ self.old.bytes.ghost_name }
+        ensures puts { Puts (decimal n) self.old.bytes.now self.old.len self.new.bytes.now self.new.len }
+    {
+        let mut digits = [0u8; 20];
+        let first = put_digits(n, &mut digits);
+        self.put(&digits[first..]);
+    }
+
+    // A space and a number.
+    pub fn field(&mut self, n: u64)
+        ensures same_reference { self.new.bytes.ghost_name ≡ self.old.bytes.ghost_name }
+        ensures puts { Puts (32 ∷ decimal n) self.old.bytes.now self.old.len self.new.bytes.now self.new.len }
+    {
+        self.put(b" ");
+        self.number(n);
+    }
+}
+
+// A write never fails.
+impl fmt::Write for Text<'_> {
+    ghost write_str_gives = { λ s bytes t. Puts bytes s.bytes.now s.len t.bytes.now t.len × (t.bytes.ghost_name ≡ s.bytes.ghost_name) };
+
+    fn write_str(&mut self, s: &str) -> fmt::Result {
+        self.put(s.as_bytes());
+        Ok(())
+    }
 }
 
 // Puts a number's digits at the end of the array; gives the place of the first.
@@ -55,52 +105,5 @@ fn put_digits(n: u64, digits: &mut [u8; 20]) -> usize
     }
     at -= 1;
     digits[at] = b'0' + rest as u8;
-    at
-}
-
-pub fn number(out: &mut [u8], at: usize, n: u64) -> usize
-    ensures upper_bound { result ≤ length out.old }
-    ensures puts { Puts (decimal n) out.old at out.new result }
-{
-    let mut digits = [0u8; 20];
-    let first = put_digits(n, &mut digits);
-    bytes(out, at, &digits[first..])
-}
-
-// A space and a number.
-pub fn field(out: &mut [u8], at: usize, n: u64) -> usize
-    ensures upper_bound { result ≤ length out.old }
-    ensures puts { Puts (32 ∷ decimal n) out.old at out.new result }
-{
-    let at = bytes(out, at, b" ");
-    number(out, at, n)
-}
-
-// The first text for yes, the second for no.
-pub fn either(out: &mut [u8], at: usize, answer: bool, yes: &[u8], no: &[u8]) -> usize
-    ensures { result ≤ length out.old }
-{
-    if answer {
-        bytes(out, at, yes)
-    } else {
-        bytes(out, at, no)
-    }
-}
-
-// A space, and 1 for yes or 0 for no.
-pub fn flag(out: &mut [u8], at: usize, flag: bool) -> usize
-    ensures { result ≤ length out.old }
-{
-    either(out, at, flag, b" 1", b" 0")
-}
-
-// Ends the line; writes what is gathered once it is over 60,000 bytes.
-pub fn end(rt: &impl Print, out: &mut [u8], at: usize) -> usize
-    ensures { result ≤ length out.old }
-{
-    let at = bytes(out, at, b"\n");
-    if 60000 < at {
-        return flush(rt, out, at);
-    }
     at
 }

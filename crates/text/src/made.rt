@@ -2,9 +2,10 @@
 // A record stores an identity in one byte, so that from 256 on an operand becomes 255.
 ghost use Rattle.std.specs.Prelude.{◌≡◌, []};
 ghost use Rattle.model.specs.Interface.{port_list};
-ghost use Rattle.text.specs.Made.{MorePorts, NodeFor, declaration_for, link_for, parent_of, phase_at, port_for};
+ghost use Rattle.text.specs.Made.{MorePorts, NodeFor, declaration_for, is_yes, link_for, parent_of, phase_at, port_for};
+ghost use Rattle.text.specs.Operands.{has_dash, number_of};
 
-use crate::words::Line;
+use crate::words::{Line, Operand};
 use model::{Declaration, Link, Node, Parent, Phase, Port, PortList};
 
 pub fn identity_of(operand: u64) -> usize
@@ -25,22 +26,48 @@ fn phase_at(place: u64) -> Phase
     }
 }
 
-pub fn parent_of(none: bool, operand: u64) -> Parent
-    ensures { result ≡ parent_of none operand }
-{
-    if none {
-        Parent::None
-    } else {
-        Parent::Of(identity_of(operand))
+impl Operand {
+    // The identity that an operand names.
+    pub fn id(self) -> usize
+        ensures { result ≡ number_of self }
+    {
+        identity_of(self.number())
+    }
+
+    fn is_yes(self) -> bool
+        ensures { result ≡ is_yes (number_of self) }
+    {
+        self.number() == 1
     }
 }
 
-pub fn port_of(key: u64, realm: u64) -> Port
-    ensures { result ≡ port_for key realm }
+impl Line {
+    fn has_dash(&self) -> bool
+        ensures { result ≡ has_dash self.now }
+    {
+        self.operands
+            .iter()
+            .any(|operand| matches!(operand, Operand::Dash))
+    }
+
+    // The parent that an operand names; none in a line with `-`.
+    pub fn parent(&self, id: Operand) -> Parent
+        ensures { result ≡ parent_of (has_dash self.now) (number_of id) }
+    {
+        if self.has_dash() {
+            Parent::None
+        } else {
+            Parent::Of(id.id())
+        }
+    }
+}
+
+pub fn port_of(key: Operand, realm: Operand) -> Port
+    ensures { result ≡ port_for (number_of key) (number_of realm) }
 {
     Port {
-        key: key,
-        realm: realm,
+        key: key.number(),
+        realm: realm.number(),
     }
 }
 
@@ -48,32 +75,35 @@ pub fn port_of(key: u64, realm: u64) -> Port
 pub fn node_of(line: Line) -> Node
     ensures { NodeFor line result }
 {
-    let phase = phase_at(line.fourth);
-    let parent = parent_of(line.none, line.sixth);
-    let mut node = records::new_node(parent);
-    node.present = line.second == 1;
-    node.retired = line.third == 1;
-    node.restoring = line.fifth == 1;
-    node.generation = line.seventh;
-    records::with_phase(phase, node)
+    let [_, present, retired, phase, restoring, parent, generation] = line.operands;
+    Node {
+        present: present.is_yes(),
+        retired: retired.is_yes(),
+        phase: phase_at(phase.number()),
+        restoring: restoring.is_yes(),
+        generation: generation.number(),
+        ..records::new_node(line.parent(parent))
+    }
 }
 
 // PLACE OWNER KEY REALM PROVIDES
 pub fn declaration_of(line: Line) -> Declaration
     ensures { result ≡ declaration_for line }
 {
-    let port = port_of(line.third, line.fourth);
-    records::declaration_of(identity_of(line.second), line.fifth == 1, port)
+    let [_, owner, key, realm, provides, ..] = line.operands;
+    records::declaration_of(owner.id(), provides.is_yes(), port_of(key, realm))
 }
 
 // PLACE CONSUMER KEY REALM PROVIDER LIVE GENERATION
 pub fn link_of(line: Line) -> Link
     ensures { result ≡ link_for line }
 {
-    let binding = records::binding_of(port_of(line.third, line.fourth), identity_of(line.fifth));
-    let mut link = records::live_link(identity_of(line.second), binding, line.seventh);
-    link.live = line.sixth == 1;
-    link
+    let [_, consumer, key, realm, provider, live, generation] = line.operands;
+    let binding = records::binding_of(port_of(key, realm), provider.id());
+    Link {
+        live: live.is_yes(),
+        ..records::live_link(consumer.id(), binding, generation.number())
+    }
 }
 
 // The empty list.
@@ -81,27 +111,20 @@ pub fn link_of(line: Line) -> Link
 pub fn no_ports() -> PortList
     ensures { result ≡ port_list [] }
 {
-    let blank = records::blank_port();
     PortList {
-        ports: [blank; 32],
+        ports: [records::blank_port(); 32],
         count: 0,
     }
 }
 
 // COUNT KEY REALM STEP: so many more ports, KEY/REALM and then keys further by STEP; the entries past the count have such ports too.
-pub fn more_ports(list: PortList, count: usize, key: u64, realm: u64, step: u64) -> PortList
+pub fn more_ports(mut list: PortList, count: usize, mut key: u64, realm: u64, step: u64) -> PortList
     ensures { MorePorts list count key realm step result }
 {
-    let mut ports = list.ports;
-    let mut key = key;
-    let mut i = list.count;
-    while i < 32 {
-        ports[i] = port_of(key, realm);
-        key = std::num::wrapping_add_u64(key, step);
-        i += 1;
+    for i in list.count..32 {
+        list.ports[i] = Port { key, realm };
+        key = key.wrapping_add(step);
     }
-    PortList {
-        ports: ports,
-        count: std::num::wrapping_add_usize(list.count, count),
-    }
+    list.count = list.count.wrapping_add(count);
+    list
 }

@@ -1,142 +1,103 @@
 // The status of a kernel in words: a line for each present component, or a shorter one for each of a list.
-ghost use Rattle.std.specs.Prelude.{◌≤◌, length};
-
-use crate::{answers, bytes, either, end, field};
+use crate::answers::OrNone;
 use kernel::Kernel;
-use model::{OptionUnresolved, Port, Resolution, Unresolved};
+use model::{Port, Resolution, Unresolved};
 use results::Identities;
-use sizes::IDENTITIES;
+use std::fmt;
 
-// Why a dependency did not resolve.
-fn reason(out: &mut [u8], at: usize, found: Resolution) -> usize
-    ensures { result ≤ length out.old }
-{
-    let Resolution::NotActive(id) = found else {
-        return bytes(out, at, b", which nobody provides");
-    };
-    let at = bytes(out, at, b", which");
-    let at = field(out, at, id as u64);
-    bytes(out, at, b" provides but is not Active")
-}
+#[derive(Clone, Copy)]
+pub(crate) struct KeyRealm(pub(crate) Port);
 
-// A port after a space: its key and its realm.
-pub(crate) fn port(out: &mut [u8], at: usize, port: Port) -> usize
-    ensures { result ≤ length out.old }
-{
-    let at = bytes(out, at, b" key");
-    let at = field(out, at, port.key);
-    let at = bytes(out, at, b" realm");
-    field(out, at, port.realm)
-}
+impl fmt::Display for KeyRealm {
+    ghost use Rattle.std.specs.Prelude.{Some};
+    ghost use Rattle.text.specs.Shown.{key_realm};
 
-// A dependency that did not resolve, after a space: its port, and why.
-pub(crate) fn unresolved(out: &mut [u8], at: usize, unresolved: Unresolved) -> usize
-    ensures { result ≤ length out.old }
-{
-    let wanted = unresolved.port;
-    let found = unresolved.found;
-    let at = port(out, at, wanted);
-    reason(out, at, found)
-}
+    ghost output = { λ p. Some (key_realm p.0) };
 
-// The dependency that a component waits for.
-fn waits(out: &mut [u8], at: usize, missing: Unresolved) -> usize
-    ensures { result ≤ length out.old }
-{
-    let at = bytes(out, at, b", waits for");
-    unresolved(out, at, missing)
-}
-
-// What target gives of a component; nothing of a retired one.
-fn target(out: &mut [u8], at: usize, kernel: Kernel, id: usize) -> usize
-    ensures { result ≤ length out.old }
-{
-    let target = kernel.target(id);
-    let missing = target.missing;
-    if let OptionUnresolved::Some(first) = missing {
-        return waits(out, at, first);
+    fn fmt<W: fmt::Write>(&self, f: &mut fmt::Formatter<W>) -> fmt::Result {
+        let Port { key, realm } = self.0;
+        write!(f, "key {key} realm {realm}")
     }
-    either(out, at, target.there, b", has its target", b"")
 }
 
-// Its identity and its phase.
-fn phase(out: &mut [u8], at: usize, kernel: Kernel, id: usize) -> usize
-    ensures { result ≤ length out.old }
-{
-    let at = bytes(out, at, b"component");
-    let at = field(out, at, id as u64);
-    let at = bytes(out, at, b":");
-    answers::phase(out, at, kernel.phase(id))
-}
+// A dependency that did not resolve: its port, and why.
+#[derive(Clone, Copy)]
+pub(crate) struct Missing(pub(crate) Unresolved);
 
-// Whether it is retired, and whether it is restoring.
-fn marks(out: &mut [u8], at: usize, kernel: Kernel, id: usize) -> usize
-    ensures { result ≤ length out.old }
-{
-    let at = either(out, at, kernel.retired(id), b", retired", b"");
-    either(out, at, kernel.cleanup_started(id), b", restoring", b"")
-}
+impl fmt::Display for Missing {
+    ghost use Rattle.std.specs.Prelude.{Some};
+    ghost use Rattle.text.specs.Shown.{missing_text};
 
-// What is said behind the phase, if it is wanted: its generation, its marks and its target.
-fn rest_if(out: &mut [u8], at: usize, wanted: bool, kernel: Kernel, id: usize) -> usize
-    ensures { result ≤ length out.old }
-{
-    if !wanted {
-        return loops::at_most(at, out.len());
+    ghost output = { λ m. Some (missing_text m.0) };
+
+    fn fmt<W: fmt::Write>(&self, f: &mut fmt::Formatter<W>) -> fmt::Result {
+        let port = KeyRealm(self.0.port);
+        match self.0.found {
+            Resolution::NotActive(id) => {
+                write!(f, "{port}, which {id} provides but is not Active")
+            }
+            _ => write!(f, "{port}, which nobody provides"),
+        }
     }
-    let at = bytes(out, at, b", generation");
-    let at = answers::generation(out, at, kernel.episode_generation(id));
-    let at = marks(out, at, kernel, id);
-    target(out, at, kernel, id)
 }
 
-// The line of one component: its phase alone, or all of its status.
-fn component(
-    rt: &impl Print,
-    out: &mut [u8],
-    at: usize,
-    kernel: Kernel,
-    id: usize,
-    all: bool,
-) -> usize
-    ensures { result ≤ length out.old }
-{
-    let at = phase(out, at, kernel, id);
-    let at = rest_if(out, at, all, kernel, id);
-    end(rt, out, at)
-}
+// A component's identity and its phase.
+#[derive(Clone, Copy)]
+struct Phased<'a>(&'a Kernel, usize);
 
-// A line for each component of a list, in its order.
-fn lines(
-    rt: &impl Print,
-    out: &mut [u8],
-    at: usize,
-    kernel: Kernel,
-    list: Identities,
-    all: bool,
-) -> usize
-    ensures { result ≤ length out.old }
-{
-    let count = loops::at_most(list.count, IDENTITIES);
-    let mut at = loops::at_most(at, out.len());
-    let mut i = 0;
-    while i < count {
-        at = component(rt, out, at, kernel, list.ids[i], all);
-        i += 1;
+impl fmt::Display for Phased<'_> {
+    fn fmt<W: fmt::Write>(&self, f: &mut fmt::Formatter<W>) -> fmt::Result {
+        let Phased(kernel, id) = *self;
+        write!(f, "component {id}: {}", OrNone(kernel.phase(id)))
     }
-    at
+}
+
+// Its generation, whether it is retired and whether it is restoring, and what target gives; of a retired one no target.
+#[derive(Clone, Copy)]
+struct Further<'a>(&'a Kernel, usize);
+
+impl fmt::Display for Further<'_> {
+    fn fmt<W: fmt::Write>(&self, f: &mut fmt::Formatter<W>) -> fmt::Result {
+        let Further(kernel, id) = *self;
+        write!(f, "generation {}", OrNone(kernel.episode_generation(id)))?;
+        if kernel.retired(id) {
+            f.write_str(", retired")?;
+        }
+        if kernel.cleanup_started(id) {
+            f.write_str(", restoring")?;
+        }
+        match kernel.target(id) {
+            Ok(_) => f.write_str(", has its target"),
+            Err(Some(first)) => write!(f, ", waits for {}", Missing(first)),
+            Err(None) => Ok(()),
+        }
+    }
 }
 
 // A line for each present component, ascending.
-pub fn components(rt: &impl Print, out: &mut [u8], at: usize, kernel: Kernel) -> usize
-    ensures { result ≤ length out.old }
-{
-    lines(rt, out, at, kernel, kernel.ids(), true)
+#[derive(Clone, Copy)]
+pub struct Status<'a>(pub &'a Kernel);
+
+impl fmt::Display for Status<'_> {
+    fn fmt<W: fmt::Write>(&self, f: &mut fmt::Formatter<W>) -> fmt::Result {
+        let Identities { ids, count } = self.0.ids();
+        for id in ids.iter().take(count) {
+            writeln!(f, "{}, {}", Phased(self.0, *id), Further(self.0, *id))?;
+        }
+        Ok(())
+    }
 }
 
 // A line for each component of a list: its phase.
-pub fn phases(rt: &impl Print, out: &mut [u8], at: usize, kernel: Kernel, list: Identities) -> usize
-    ensures { result ≤ length out.old }
-{
-    lines(rt, out, at, kernel, list, false)
+#[derive(Clone, Copy)]
+pub struct Phases<'a>(pub &'a Kernel, pub &'a Identities);
+
+impl fmt::Display for Phases<'_> {
+    fn fmt<W: fmt::Write>(&self, f: &mut fmt::Formatter<W>) -> fmt::Result {
+        let Phases(kernel, list) = *self;
+        for id in list.ids.iter().take(list.count) {
+            writeln!(f, "{}", Phased(kernel, *id))?;
+        }
+        Ok(())
+    }
 }

@@ -1,181 +1,94 @@
-// A line read: its name as a place in a row of names, its operands as numbers.
-ghost use Rattle.std.specs.Prelude.{◌≡◌, ◌+◌, ◌*◌, ◌≤◌, false, length};
+// The words of a line: its name, and behind it its operands.
+ghost use Rattle.std.specs.Prelude.{◌≡◌, ◌+◌, ◌*◌, ◌≤◌, IfSome, cond, is_some, ltb, None, Some, length};
 ghost use Rattle.loops.specs.Limits.{AtMost};
-ghost use Rattle.text.specs.Words.{digit_of, is_number, most, names_in, with_digits};
+ghost use Rattle.text.specs.Words.{digit_of, is_number, most, with_digits};
+ghost use Rattle.text.specs.Operands.{number_of};
 
-const MOST: u64 = 18446744073709551615;
-
-// first to seventh: the operands that are there, then 0; a phase is its place among the four. none: an operand is `-`.
-// known: the name is of the row, its operands are as many as they should be, each a number, a phase or `-`.
+// An operand: a number, a phase as its place among the four, or `-`.
 #[derive(Clone, Copy)]
-pub struct Line {
-    pub name: usize,
-    pub first: u64,
-    pub second: u64,
-    pub third: u64,
-    pub fourth: u64,
-    pub fifth: u64,
-    pub sixth: u64,
-    pub seventh: u64,
-    pub none: bool,
-    pub known: bool,
+pub enum Operand {
+    Number(u64),
+    Dash,
 }
 
-// One word as an operand.
+impl Operand {
+    // The number; of `-` the place behind the phases.
+    pub fn number(self) -> u64
+        ensures { result ≡ number_of self }
+    {
+        match self {
+            Operand::Number(number) => number,
+            Operand::Dash => 4,
+        }
+    }
+}
+
+// A line's operands: those that are there, then 0.
 #[derive(Clone, Copy)]
-pub struct Operand {
-    pub value: u64,
-    pub none: bool,
-    pub known: bool,
+pub struct Line {
+    pub operands: [Operand; 7],
 }
 
 // Word k of a line, empty if it has fewer.
-pub fn word<'a>(line: &'a [u8], k: usize) -> &'a [u8]
+pub fn word(line: &[u8], k: usize) -> &[u8]
     ensures { length result.now ≤ length line.now }
 {
-    let mut n = 0;
-    let mut start = 0;
-    let mut i = 0;
-    while i < line.len() {
-        if line[i] == b' ' {
-            if n == k {
-                break;
-            }
-            n = std::num::wrapping_add_usize(n, 1);
-            start = i + 1;
-        }
-        i += 1;
-    }
-    if n == k {
-        if start <= i {
-            if i <= line.len() {
-                return &line[start..i];
-            }
-        }
-    }
-    &line[0..0]
+    line.split(|byte| *byte == b' ').nth(k).unwrap_or(&[])
 }
 
-// The byte at this place, 0 past the end.
-fn byte_at(bytes: &[u8], place: usize) -> u8 {
-    if place < bytes.len() { bytes[place] } else { 0 }
-}
-
-// The place of a word in a row of names, a space after each; past them if it is none of them.
-pub fn place_of(names: &[u8], word: &[u8]) -> usize
-    ensures { result ≤ names_in names.now }
+// The value of a digit.
+fn digit(byte: u8) -> Option<u64>
+    ensures { result ≡ cond (ltb (digit_of byte) 10) (Some (digit_of byte)) None }
 {
-    let mut place = 0;
-    let mut same = true;
-    let mut passed = 0;
-    let mut i = 0;
-    while i < names.len() {
-        if names[i] == b' ' {
-            if same & (passed == word.len()) {
-                break;
-            }
-            place = std::num::wrapping_add_usize(place, 1);
-            same = true;
-            passed = 0;
-        } else {
-            same = same & (names[i] == byte_at(word, passed));
-            passed = std::num::wrapping_add_usize(passed, 1);
-        }
-        i += 1;
+    match byte {
+        b'0'..=b'9' => Some(u64::from(byte - b'0')),
+        _ => None,
     }
-    place
-}
-
-// The value of a digit, 10 of another byte.
-fn digit(byte: u8) -> u64
-    ensures { result ≡ digit_of byte }
-{
-    if byte < b'0' {
-        return 10;
-    }
-    if b'9' < byte {
-        return 10;
-    }
-    (byte - b'0') as u64
 }
 
 // The number with one digit more; the largest number if it is more than that.
 fn with_digit(value: u64, digit: u64) -> u64
     ensures { AtMost (value * 10 + digit) most result }
 {
-    if MOST / 10 < value {
-        return MOST;
-    }
-    if MOST - value * 10 < digit {
-        return MOST;
-    }
-    value * 10 + digit
+    value.saturating_mul(10).saturating_add(digit)
 }
 
-// A word as a number, the largest number if it is more than that; known if the word has digits alone, and at least one.
-pub fn number(word: &[u8]) -> Operand
-    ensures at_most { AtMost (with_digits 0 word.now) most result.value }
-    ensures known_value { result.known ≡ is_number word.now }
-    ensures none_value { result.none ≡ false }
+// A word as a number, if it has digits alone, and at least one; the largest number if it is more than that.
+pub fn number(word: &[u8]) -> Option<u64>
+    ensures at_most { IfSome result (λ value. AtMost (with_digits 0 word.now) most value) }
+    ensures known { is_some result ≡ is_number word.now }
 {
+    if word.is_empty() {
+        return None;
+    }
     let mut value = 0;
-    let mut known = 0 < word.len();
-    let mut i = 0;
-    while i < word.len() {
-        let next = digit(word[i]);
-        known = known & (next < 10);
-        value = with_digit(value, next);
-        i += 1;
+    for byte in word {
+        value = with_digit(value, digit(*byte)?);
     }
-    Operand {
-        value: value,
-        none: false,
-        known: known,
+    Some(value)
+}
+
+fn operand_of(word: &[u8]) -> Option<Operand> {
+    match word {
+        b"Inactive" => Some(Operand::Number(0)),
+        b"Loading" => Some(Operand::Number(1)),
+        b"Active" => Some(Operand::Number(2)),
+        b"Unloading" => Some(Operand::Number(3)),
+        b"-" => Some(Operand::Dash),
+        _ => number(word).map(Operand::Number),
     }
 }
 
-fn operand_of(word: &[u8]) -> Operand {
-    let place = place_of(b"Inactive Loading Active Unloading - ", word);
-    if place < 5 {
-        return Operand {
-            value: place as u64,
-            none: place == 4,
-            known: true,
-        };
-    }
-    number(word)
-}
-
-// A line whose name is of this row of names; counts has a digit for each of them, how many operands it takes.
-pub fn read_line(names: &[u8], counts: &[u8], line: &[u8]) -> Line
-    ensures { result.name ≤ names_in names.now }
-{
-    let name = place_of(names, word(line, 0));
-    let mut operands = [0u64; 8];
-    let mut none = false;
-    let mut known = true;
-    let mut k = 0;
-    while k < 8 {
-        let word = word(line, k + 1);
-        if word.len() == 0 {
-            break;
+impl Line {
+    // The operands of a line, up to an empty word; none if they are not this many, or one is no operand.
+    pub fn read(line: &[u8], count: usize) -> Option<Line> {
+        let words = line.split(|byte| *byte == b' ').skip(1);
+        let mut operands = [Operand::Number(0); 7];
+        let mut known = 0;
+        for word in words.take_while(|word| !word.is_empty()) {
+            *operands.get_mut(known)? = operand_of(word)?;
+            known += 1;
         }
-        let operand = operand_of(word);
-        operands[k] = operand.value;
-        none = none | operand.none;
-        known = known & operand.known;
-        k += 1;
-    }
-    Line {
-        name: name,
-        first: operands[0],
-        second: operands[1],
-        third: operands[2],
-        fourth: operands[3],
-        fifth: operands[4],
-        sixth: operands[5],
-        seventh: operands[6],
-        none: none,
-        known: known & (digit(byte_at(counts, name)) == k as u64),
+        (known == count).then_some(Line { operands })
     }
 }

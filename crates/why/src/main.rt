@@ -3,116 +3,65 @@
 
 use player::{play, start};
 use reasons::{LogExplanation, why_next};
-use text::logs::{argument, argument_count, last_answer, line, read_log, tell, warn};
-use text::made::identity_of;
-use text::words::number;
-use text::{bytes, explanations};
-
-// The lines without the end of the last; nothing of a command that the log does not have.
-fn explained(out: &mut [u8], why: LogExplanation) -> usize {
-    match why {
-        LogExplanation::NoCommand => 0,
-        LogExplanation::Unknown => explanations::unknown(out, 0),
-        LogExplanation::Cut => explanations::cut(out, 0),
-        LogExplanation::Full(count) => explanations::full(out, 0, count),
-        LogExplanation::Command(explanation) => {
-            explanations::explanation(out, 0, explanation, b"\n")
-        }
-    }
-}
+use std::io;
+use text::Text;
+use text::asked::each_pair;
+use text::explanations::{Explained, LogRefusal};
+use text::logs::{About, last_answer, read_log};
 
 // Says of a log that it has no command of this number.
-fn no_command(rt: &HostRuntime, name: &[u8], word: &[u8]) {
-    let mut said = [0u8; 65536];
-    let at = bytes(&mut said, 0, b"why: ");
-    let at = bytes(&mut said, at, name);
-    let at = bytes(&mut said, at, b" has no command ");
-    let at = bytes(&mut said, at, word);
-    let at = bytes(&mut said, at, b"\n");
-    warn(rt.stderr(), &said, at);
-}
-
-fn answered(rt: &HostRuntime, name: &[u8], word: &[u8], why: LogExplanation) {
-    let mut out = [0u8; 65536];
-    let at = explained(&mut out, why);
-    if at == 0 {
-        return no_command(rt, name, word);
-    }
-    let at = text::end(rt, &mut out, at);
-    text::flush(rt, &out, at);
+fn no_command(rt: &HostRuntime, name: &[u8], word: &[u8]) -> io::Result<()> {
+    let mut said = [0; 65536];
+    let mut text = Text::new(&mut said);
+    text.put(b"why: ");
+    text.put(name);
+    text.put(b" has no command ");
+    text.put(word);
+    text.put(b"\n");
+    rt.stderr().write_all(text.as_bytes())
 }
 
 // Why of the command behind as many as the answers have room for; an 11 or a 12 is a log's last.
 fn behind(log: &[u8], answers: &mut [u8]) -> LogExplanation {
     let player = play(start(), log, answers);
-    if player.answered < answers.len() {
+    if player.answered < answers.len() || 10 < last_answer(answers, answers.len()) {
         return LogExplanation::NoCommand;
     }
-    if 10 < last_answer(answers, answers.len()) {
-        return LogExplanation::NoCommand;
-    }
-    why_next(player, log)
+    why_next(&player, log)
 }
 
 // Why of the command with this number, counted from 0.
 fn asked(log: &[u8], command: usize) -> LogExplanation {
-    let mut answers = [0u8; 65536];
-    if answers.len() < command {
-        return LogExplanation::NoCommand;
+    let mut answers = [0; 65536];
+    match answers.get_mut(..command) {
+        Some(answers) => behind(log, answers),
+        None => LogExplanation::NoCommand,
     }
-    behind(log, &mut answers[0..command])
 }
 
 // The first 65,536 bytes of a file, as far as they can be read, played up to the command; of a file that cannot be opened nothing is.
-fn ask_file(rt: &HostRuntime, name: &[u8], word: &[u8], command: usize) {
-    let mut log = [0u8; 65536];
-    let read = read_log(rt, name, &mut log);
-    let n = read.count;
-    let why = asked(&log[0..n], command);
-    tell(
-        rt.stderr(),
-        b"why",
-        name,
-        read,
-        0,
-        b" is answered as far as it was read",
-        b" was not played, and nothing is explained",
-    );
-    if read.opened {
-        answered(rt, name, word, why);
+fn ask(rt: &HostRuntime, name: &[u8], word: &[u8], command: usize) -> io::Result<()> {
+    let program = "why";
+    let about = About { program, name };
+    let mut log = [0; 65536];
+    let Some(read) = read_log(rt, name, &mut log) else {
+        about.tell_unopened(rt.stderr(), " was not played, and nothing is explained");
+        return Ok(());
+    };
+    let why = asked(read.bytes, command);
+    about.tell(rt.stderr(), read, 0, " is answered as far as it was read");
+    match why {
+        LogExplanation::NoCommand => no_command(rt, name, word),
+        LogExplanation::Unknown => println!(rt; "{}", LogRefusal::Unknown),
+        LogExplanation::Cut => println!(rt; "{}", LogRefusal::Cut),
+        LogExplanation::Full(count) => println!(rt; "{}", LogRefusal::Full(count)),
+        LogExplanation::Command(answer) => println!(rt; "{}", Explained(&answer, "\n")),
     }
 }
 
-fn no_number(rt: &HostRuntime, word: &[u8]) {
-    let mut said = [0u8; 65536];
-    let at = line(&mut said, 0, b"why", word, b" is no number");
-    warn(rt.stderr(), &said, at);
-}
-
-// A log and a command's number; nothing is played if that is no number.
-fn ask(rt: &HostRuntime, name: &[u8], word: &[u8]) {
-    let command = number(word);
-    if !command.known {
-        return no_number(rt, word);
-    }
-    ask_file(rt, name, word, identity_of(command.value));
-}
-
-// Argument i is the log, the next one the command's number, empty if there is none.
-fn ask_arguments(rt: &HostRuntime, i: usize) {
-    let mut name = [0u8; 4096];
-    let n = argument(rt, i, &mut name);
-    let mut word = [0u8; 65536];
-    let m = argument(rt, std::num::wrapping_add_usize(i, 1), &mut word);
-    ask(rt, &name[..n], &word[..m]);
-}
-
-// The arguments by pairs, a log and a command's number, counted from 0.
+// The arguments by pairs, a log and a command's number, counted from 0. A write that fails is passed over.
 fn main(rt: HostRuntime) {
-    let pairs = argument_count(&rt) / 2;
-    let mut i = 0;
-    while i < pairs {
-        ask_arguments(&rt, 2 * i + 1);
-        i += 1;
-    }
+    each_pair(&rt, rt.stderr(), "why", |name, word, command| {
+        let _ = ask(&rt, name, word, command);
+    });
 }

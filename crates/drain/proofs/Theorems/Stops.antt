@@ -1,8 +1,9 @@
 -- Every sound kernel stops: the drain's commands are done in turn, then every present component is Inactive, and how many they are.
+use Rattle.std.specs.Prelude.{Err, Ok}
 use Rattle.model.proofs.Logic.{Bool, List, [], ◌&&◌, ◌<◌, ◌↔◌, ◌∙◌, ◌≡◌, ◌≤◌, and-false, ap, cond, false, get_or, length, none, some, subst, sym, true, ℕ}
-use Rattle.drain.specs.{Drains.EveryKernelStops, Drains.steps_of, Drains.stopped_of}
+use Rattle.drain.specs.{Drains.EveryKernelStops, Drains.as_drain, Drains.steps_of, Drains.stopped_of}
 use Rattle.kernel.specs.{Fields.ask, Fields.is_sound, Fields.kernel_of, Fields.layout_of, declared.Kernel.Kernel}
-use Rattle.model.specs.{Drain.KernelDrained, Drain.KernelInTurn, Drain.blank_step, Drain.commands, Drain.drain, Drain.results, Drain.stopped, Kernels.kernel_from, Layouts.Sized, Layouts.lay_out, Layouts.tables_of, Observers.cleanup_started, Observers.contains, Observers.phase, Soundness.sound, Tables.Tables, Tables.installed, Tables.node_at, Tables.present, declared.Phase.Phase, declared.Step.Step}
+use Rattle.model.specs.{Drain.KernelDrained, Drain.KernelInTurn, Drain.blank_step, Drain.commands, Drain.drain, Drain.results, Drain.stopped, Kernels.kernel_from, Layouts.Sized, Layouts.lay_out, Layouts.tables_of, Observers.cleanup_started, Observers.contains, Observers.phase, Soundness.sound, Tables.Tables, Tables.installed, Tables.node_at, Tables.present, declared.Error.Error, declared.Phase.Phase, declared.Step.Step}
 use Rattle.model.proofs.{Theorems.Drain.Kept.drain-again, Theorems.Drain.Kept.drain-empty, Theorems.Drain.Kept.drain-stops, Theorems.Drain.Once.drain-once, Theorems.Drain.Rule.kernel-drain, Theorems.Drain.Whole.drain-bound, Theorems.Drain.Whole.drain-inactive, Theorems.Drain.Whole.drain-long, Theorems.Drain.Whole.drain-restored, Theorems.Drain.Whole.drain-sound, Theorems.Kernels.asked_of, Theorems.Kernels.asked-sound, Theorems.Layouts.layout_sound, Theorems.Layouts.tables-sound}
 use Rattle.sizes.specs.{Sizes.STEPS, Sizes.sizes}
 
@@ -32,6 +33,8 @@ module _ (k : Kernel) (z : Sized sizes (layout_of k)) (h : is_sound k ≡ true) 
 pub every_kernel_stops : EveryKernelStops
 every_kernel_stops k z h =
     record {
+      steps = asked-sound sizes (layout_of k) (Err Error.Damaged) (λ U. Ok (as_drain (drain U))) h ∙ ap (λ (ss : List Step). Ok (as_drain ss)) (sym e);
+      number = asked-sound sizes (layout_of k) (Err Error.Damaged) (λ U. Ok (length (drain U))) h ∙ ap (λ (ss : List Step). Ok (length ss)) (sym e);
       in_turn = subst (λ (ss : List Step). KernelInTurn sizes (layout_of k) (commands ss)) (sym e) (drained k z h).0;
       once = subst (λ (ss : List Step). (i j : ℕ) → i < j → j < length ss → get_or ss i blank_step ≡ get_or ss j blank_step → ⊥) (sym e) (drain-once sizes (T k z h) (t k z h));
       empty = subst (λ (ss : List Step). (ss ≡ []) ↔ ((id : ℕ) → ask k false (λ U. installed U.nodes id) ≡ false)) (sym e) none_installed;

@@ -1,22 +1,26 @@
--- A target in the struct that holds it.
-use Rattle.model.proofs.Logic.{◌∙◌, ◌≡◌, ap, false, get_or, not, sym, ℕ}
-use Rattle.kernel.specs.{Fields.layout_of, declared.Kernel.Kernel}
-use Rattle.model.specs.{Layouts.tables_of, Lifecycle.bindings, Lists.is_none, Records.blank_binding, Records.blank_node, Resolution.Target, Resolution.target, Resolution.target_list}
-use Rattle.results.specs.{Results.target_bindings, declared.TargetBindings.TargetBindings}
-use Rattle.layouts.proofs.{Laws.Anew.Holds, Laws.Sound.SoundKernel, Laws.Targets.Held, Laws.Targets.found, Laws.Targets.is_untargeted, Laws.Targets.target_found}
-use Rattle.sizes.specs.{Sizes.DECLARATIONS, Sizes.sizes}
+-- A target, as the code answers it.
+use Rattle.std.specs.Prelude.{Ok, Option as CodeOption, Result, is_ok}
+use Rattle.model.proofs.Logic.{arith, ◌∙◌, ◌≡◌, ap, not, refl, sym, ℕ}
+use Rattle.model.specs.{Lifecycle.bindings, Lists.is_none, Records.blank_binding, Resolution.Target, Resolution.target_list, declared.Unresolved.Unresolved}
+use Rattle.results.specs.{Results.bound_bindings, Results.target_bindings, declared.TargetBindings.TargetBindings}
+use Rattle.layouts.proofs.{Laws.Anew.Holds}
+use Rattle.sizes.specs.{Sizes.DECLARATIONS}
 
-pub there_is : (r : TargetBindings) (t : Target) → r ≡ target_bindings t → r.there ≡ not (is_none (target_list t))
-there_is r t h = ap (λ (x : TargetBindings). x.there) h
+-- what target answers
+abbrev pub Answered : Type 0
+Answered = Result TargetBindings (CodeOption Unresolved)
 
-pub bindings-are : (r : TargetBindings) (t : Target) → r ≡ target_bindings t → Holds DECLARATIONS blank_binding (bindings (target_list t)) r.bindings r.count
-bindings-are r t h = record { entries = sym (ap (λ (x : TargetBindings). x.bindings) h); counted = sym (ap (λ (x : TargetBindings). x.count) h) }
+pub there_is : (r : Answered) (t : Target) → r ≡ target_bindings t → is_ok r ≡ not (is_none (target_list t))
+there_is r t h = ap is_ok h ∙ go t
+  where
+    go : (u : Target) → is_ok (target_bindings u) ≡ not (is_none (target_list u))
+    go (Target.bound bs) = refl
+    go (Target.missing u) = refl
+    go Target.nothing = refl
 
--- of a present component that is not retired
-pub held :
-    {k : Kernel} (K : SoundKernel sizes (layout_of k)) (id : ℕ) (r : TargetBindings) → r ≡ target_bindings (found sizes (layout_of k) id) → is_untargeted (get_or k.nodes id blank_node) ≡ false →
-    Held sizes (layout_of k) id r.there r.bindings r.count
-held {k} K id r h u =
-    let o = target (tables_of (layout_of k)) id in
-    let g : r ≡ target_bindings o = h ∙ ap target_bindings (sym (target_found K id u)) in
-    record { kernel = K; is-there = there_is r o g; bound = bindings-are r o g }
+pub bindings-are : (b : TargetBindings) (t : Target) → Ok b ≡ target_bindings t → Holds DECLARATIONS blank_binding (bindings (target_list t)) b.bindings b.count
+bindings-are b (Target.bound bs) h =
+    let e : b ≡ bound_bindings bs = cc in
+    record { entries = sym (ap (λ (x : TargetBindings). x.bindings) e); counted = sym (ap (λ (x : TargetBindings). x.count) e) }
+bindings-are b (Target.missing u) h = let f : ◌≡◌ {A = ℕ} 0 1 = cc in absurd (omega arith)
+bindings-are b Target.nothing h = let f : ◌≡◌ {A = ℕ} 0 1 = cc in absurd (omega arith)

@@ -1,6 +1,7 @@
 -- Declarations of a sound kernel: what scans of its arrays find, and one list or record behind them.
+use Rattle.std.specs.Prelude.{Ok}
 use Rattle.model.proofs.Logic.{Bool, List, [], ◌&&◌, ◌++◌, ◌+◌, ◌<◌, ◌||◌, ◌∙◌, ◌∷◌, ◌≡◌, ◌≤◌, ap, append_assoc, arith, cond, false, get_or, leb-false, length, length-map, length-take-le, lt-ltb, ltb-false, map, not, not-false, refl, set, sym, take, true, ℕ}
-use Rattle.model.specs.{Insertion.clashes, Insertion.insert_tests, Insertion.inserted, Insertion.parent_present, Insertion.parent_retired, Interface.configurable_tests, Interface.configure_tests, Interface.dependencies_configured, Interface.distinct, Interface.listed, Interface.own, Interface.provision_declared, Interface.remaining, Interface.taken, Interface.too_long, Layouts.Layout, Layouts.Sized, Layouts.lay_out, Layouts.tables_of, Lists.any, Lists.padded, Records.blank_declaration, Records.blank_node, Records.dependency, Records.new_node, Records.provision, Resolution.offers, Sizes.Sizes, Sizes.list_limit, Soundness.is_declaration, Soundness.smaller, Tables.Tables, Tables.present, Tables.with_declarations, declared.Answer.Answer, declared.Parent.Parent, declared.Port.Port, declared.PortList.PortList, declared.records.Declaration.Declaration, declared.records.Node.Node}
+use Rattle.model.specs.{Insertion.clashes, Insertion.insert_tests, Insertion.inserted, Insertion.parent_present, Insertion.parent_retired, Interface.configurable_tests, Interface.configure_tests, Interface.dependencies_configured, Interface.distinct, Interface.listed, Interface.own, Interface.provision_declared, Interface.remaining, Interface.taken, Interface.too_long, Layouts.Layout, Layouts.Sized, Layouts.lay_out, Layouts.tables_of, Lists.any, Lists.padded, Records.blank_declaration, Records.blank_node, Records.dependency, Records.new_node, Records.provision, Resolution.offers, Sizes.Sizes, Sizes.list_limit, Soundness.smaller, Tables.Tables, Tables.present, Tables.with_declarations, Answers.Answer, declared.Parent.Parent, declared.Port.Port, declared.PortList.PortList, declared.records.Declaration.Declaration, declared.records.Node.Node}
 use Rattle.layouts.proofs.{Laws.Anew.HoldsDeclarations, Laws.Anew.declarations-anew, Laws.Anew.declarations-held, Laws.Anew.declarations_to, Laws.Anew.holds_more, Laws.Anew.holds-one, Laws.Anew.holds-padded, Laws.Anew.laid_as, Laws.Anew.links-held, Laws.Anew.nodes_to, Laws.Rows.done-row, Laws.Rows.done-sound, Laws.Sound.SoundKernel, Laws.Sound.declaration_count_is, Laws.Sound.node-count-is, Laws.Sound.node-is, Laws.Sound.nodes-flagged, Laws.Sound.nodes-laid, Laws.Sound.present-below}
 use Rattle.layouts.specs.{Rows.row_answer}
 use Rattle.loops.specs.{Columns.flag}
@@ -33,10 +34,6 @@ clash_test false true false = refl
 clash_test false false true = refl
 clash_test false false false = refl
 
-pub no_parent_lem : (T : Tables) {q : Parent} → q ≡ Parent.None → parent_present T q ≡ true
-unfolding parent_present
-no_parent_lem T i = ap (parent_present T) i
-
 pub no_parent_retired : (T : Tables) {q : Parent} → q ≡ Parent.None → parent_retired T q ≡ false
 unfolding parent_retired
 no_parent_retired T i = ap (parent_retired T) i
@@ -46,10 +43,6 @@ module _ {S : Sizes} {k : Layout} (K : SoundKernel S k) where
   D = take k.declaration_count k.declarations
 
   -- ---- what the scans find
-
-  pub own_is : {r : Bool} (id : ℕ) (p : Port) → r ≡ any (is_declaration id p true) (take k.declaration_count k.declarations) → own (tables_of k) id p ≡ r
-  unfolding tables_of
-  own_is id p h = sym h
 
   pub parent-retired-is : {q : Parent} {p : ℕ} → q ≡ Parent.Of p → parent_retired (tables_of k) q ≡ (get_or k.nodes p blank_node).retired
   unfolding parent_retired
@@ -141,7 +134,7 @@ configurable_by K id {l} n passed = record {
 
 -- where they answered done
 pub configurable :
-    {S : Sizes} {k : Layout} (z : Sized S k) (id : ℕ) {l : PortList} → length l.ports ≡ list_limit → {a : Answer} → a ≡ row_answer S k (λ T. configurable_tests T id l) → a ≡ Answer.Done →
+    {S : Sizes} {k : Layout} (z : Sized S k) (id : ℕ) {l : PortList} → length l.ports ≡ list_limit → {a : Answer} → a ≡ row_answer S k (λ T. configurable_tests T id l) → a ≡ Ok tt →
     Configurable S k id l
 configurable z id {l} n {a} e d = configurable_by (done-sound z (λ T. configurable_tests T id l) a e d) id n (done-row z (λ T. configurable_tests T id l) a e d)
 

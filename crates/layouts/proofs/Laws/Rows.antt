@@ -1,9 +1,10 @@
 -- What follows from an answer: of a row of tests asked of a kernel, and of the commands and checks whose rows start with it.
-use Rattle.model.proofs.Logic.{Bool, Option, [], ◌++◌, ◌∙◌, ◌≡◌, ◌⊎◌, ap, append-nil, arith, cond, false, inl, inr, none, refl, some, sym, true, ℕ}
-use Rattle.model.specs.{Answers.answer, Answers.checked, Commands.Command, Commands.report, Commands.result, Commands.tests, Kernels.asked, Kernels.commanded, Layouts.Layout, Layouts.Sized, Layouts.lay_out, Layouts.sound_kernel, Layouts.tables_of, Refusals.Reply, Refusals.Tests, Refusals.first, Refusals.or_else, Sizes.Sizes, Tables.Tables, declared.Answer.Answer, declared.Error.Error}
+use Rattle.std.specs.Prelude.{Err, Ok}
+use Rattle.model.proofs.Logic.{Option, ◌++◌, ◌∙◌, ◌≡◌, ◌⊎◌, ap, arith, false, inl, inr, none, some, sym, true, ℕ}
+use Rattle.model.specs.{Answers.answer, Answers.checked, Commands.Command, Commands.report, Commands.result, Commands.tests, Kernels.commanded, Layouts.Layout, Layouts.Sized, Layouts.lay_out, Layouts.sound_kernel, Layouts.tables_of, Refusals.Reply, Refusals.Tests, Refusals.first, Refusals.or_else, Sizes.Sizes, Tables.Tables, Answers.Answer, declared.Error.Error}
 use Rattle.layouts.proofs.{Laws.Sound.SoundKernel, Laws.Sound.ask-sound}
 use Rattle.layouts.specs.{Rows.row_answer}
-use Rattle.model.proofs.{Laws.Booleans.cases, Laws.Refusals.Passed, Laws.Refusals.done-passed, Laws.Refusals.of_passed, Laws.Refusals.passed, Laws.Refusals.refused-among, Theorems.Kernels.asked-unsound, Theorems.Kernels.commanded-accepted, Theorems.Kernels.commanded-refused, Theorems.Kernels.commanded-unsound}
+use Rattle.model.proofs.{Laws.Booleans.cases, Laws.Refusals.Passed, Laws.Refusals.done-passed, Laws.Refusals.passed, Laws.Refusals.refused-among, Theorems.Kernels.asked-unsound, Theorems.Kernels.commanded-accepted, Theorems.Kernels.commanded-refused, Theorems.Kernels.commanded-unsound}
 
 -- a command refused, the kernel unchanged
 abbrev pub Refused : Sizes → Layout → Command → Error → Type 0
@@ -13,47 +14,17 @@ Refused S k c x = commanded S k c ≡ record { kernel = k; reply = Reply.refused
 abbrev pub Accepted : Sizes → Layout → Command → Type 0
 Accepted S k c = commanded S k c ≡ record { kernel = lay_out S (result (tables_of k) c); reply = report (tables_of k) c }
 
-pub done-or-refused : {A : Type 0} (a : Answer) (x : Error) → a ≡ Answer.Done → a ≡ Answer.Refused x → A
+pub done-or-refused : {A : Type 0} (a : Answer) (x : Error) → a ≡ Ok tt → a ≡ Err x → A
 done-or-refused a x d r = let z : ◌≡◌ {A = ℕ} 0 1 = cc in absurd (omega arith)
-
--- ---- a function of what is asked
-
-pub asked-map : {A B : Type 0} (S : Sizes) (k : Layout) (g : A → B) (u : A) (f : Tables → A) → g (asked S k u f) ≡ asked S k (g u) (λ T. g (f T))
-unfolding asked
-asked-map S k g u f = go (sound_kernel S k)
-  where
-    go : (b : Bool) → g (cond b (f (tables_of k)) u) ≡ cond b (g (f (tables_of k))) (g u)
-    go true = refl
-    go false = refl
-
--- rows that agree on a sound kernel answer the same
-module _ (S : Sizes) (k : Layout) (f g : Tables → Tests) where
-  abbrev answers : Bool → (Tables → Tests) → Answer
-  answers b h = cond b (checked (h (tables_of k))) (Answer.Refused Error.Damaged)
-
-  pub rows_agree : (sound_kernel S k ≡ true → first (f (tables_of k)) ≡ first (g (tables_of k))) → row_answer S k f ≡ row_answer S k g
-  unfolding asked
-  rows_agree h = go (sound_kernel S k) h
-    where
-      go : (b : Bool) → (b ≡ true → first (f (tables_of k)) ≡ first (g (tables_of k))) → answers b f ≡ answers b g
-      go true q = ap (λ (o : Option Error). answer (or_else o Reply.done)) (q refl)
-      go false q = refl
-
--- a kernel that is not sound
-pub row-damaged : (S : Sizes) (k : Layout) (f : Tables → Tests) → sound_kernel S k ≡ false → Answer.Refused Error.Damaged ≡ row_answer S k f
-row-damaged S k f h = sym (asked-unsound S k (Answer.Refused Error.Damaged) (λ T. checked (f T)) h)
 
 -- ---- on a sound kernel
 
 module _ {S : Sizes} {k : Layout} (K : SoundKernel S k) where
   pub row_is : (f : Tables → Tests) → checked (f (tables_of k)) ≡ row_answer S k f
-  row_is f = sym (ask-sound K (Answer.Refused Error.Damaged) (λ T. checked (f T)))
+  row_is f = sym (ask-sound K (Err Error.Damaged) (λ T. checked (f T)))
 
-  pub row-refuses : (f : Tables → Tests) {x : Error} → first (f (tables_of k)) ≡ some x → Answer.Refused x ≡ row_answer S k f
+  pub row-refuses : (f : Tables → Tests) {x : Error} → first (f (tables_of k)) ≡ some x → Err x ≡ row_answer S k f
   row-refuses f h = sym (ap (λ (o : Option Error). answer (or_else o Reply.done)) h) ∙ row_is f
-
-  pub row-passes : (f : Tables → Tests) → first (f (tables_of k)) ≡ none → Answer.Done ≡ row_answer S k f
-  row-passes f h = sym (ap (λ (o : Option Error). answer (or_else o Reply.done)) h) ∙ row_is f
 
   pub refused-by : (c : Command) {x : Error} → first (tests S (tables_of k) c) ≡ some x → Refused S k c x
   refused-by c f = commanded-refused S k c _ K.sound f
@@ -65,7 +36,7 @@ module _ {S : Sizes} {k : Layout} (K : SoundKernel S k) where
 
 module _ {S : Sizes} {k : Layout} (z : Sized S k) (f : Tables → Tests) (a : Answer) (e : a ≡ row_answer S k f) where
   Ways : Type 0
-  Ways = ((sound_kernel S k ≡ false) × (a ≡ Answer.Refused Error.Damaged)) ⊎ (SoundKernel S k × (a ≡ checked (f (tables_of k))))
+  Ways = ((sound_kernel S k ≡ false) × (a ≡ Err Error.Damaged)) ⊎ (SoundKernel S k × (a ≡ checked (f (tables_of k))))
 
   ways : Ways
   unfolding Ways
@@ -73,10 +44,10 @@ module _ {S : Sizes} {k : Layout} (z : Sized S k) (f : Tables → Tests) (a : An
     where
       go : (sound_kernel S k ≡ true) ⊎ (sound_kernel S k ≡ false) → Ways
       go (inl h) = inr (record { sized = z; sound = h }, e ∙ sym (row_is (record { sized = z; sound = h }) f))
-      go (inr h) = inl (h, e ∙ asked-unsound S k (Answer.Refused Error.Damaged) (λ T. checked (f T)) h)
+      go (inr h) = inl (h, e ∙ asked-unsound S k (Err Error.Damaged) (λ T. checked (f T)) h)
 
   -- done: the kernel is sound, and no test applies
-  pub done-sound : a ≡ Answer.Done → SoundKernel S k
+  pub done-sound : a ≡ Ok tt → SoundKernel S k
   unfolding Ways
   done-sound d = go ways
     where
@@ -84,7 +55,7 @@ module _ {S : Sizes} {k : Layout} (z : Sized S k) (f : Tables → Tests) (a : An
       go (inl w) = done-or-refused a _ d w.1
       go (inr w) = w.0
 
-  pub done-row : a ≡ Answer.Done → Passed (f (tables_of k))
+  pub done-row : a ≡ Ok tt → Passed (f (tables_of k))
   unfolding Ways
   done-row d = go ways
     where
@@ -93,13 +64,13 @@ module _ {S : Sizes} {k : Layout} (z : Sized S k) (f : Tables → Tests) (a : An
       go (inr w) = done-passed (f (tables_of k)) a w.1 d
 
   -- a refusal is that of every longer row, and of a command with such a row
-  module _ (us : Tests) {x : Error} (r : a ≡ Answer.Refused x) where
-    pub refused-row : (g : Tables → Tests) → g (tables_of k) ≡ f (tables_of k) ++ us → Answer.Refused x ≡ row_answer S k g
+  module _ (us : Tests) {x : Error} (r : a ≡ Err x) where
+    pub refused-row : (g : Tables → Tests) → g (tables_of k) ≡ f (tables_of k) ++ us → Err x ≡ row_answer S k g
     unfolding Ways
     refused-row g q = go ways
       where
-        go : Ways → Answer.Refused x ≡ row_answer S k g
-        go (inl w) = sym r ∙ w.1 ∙ sym (asked-unsound S k (Answer.Refused Error.Damaged) (λ T. checked (g T)) w.0)
+        go : Ways → Err x ≡ row_answer S k g
+        go (inl w) = sym r ∙ w.1 ∙ sym (asked-unsound S k (Err Error.Damaged) (λ T. checked (g T)) w.0)
         go (inr w) = row-refuses w.0 g (ap first q ∙ refused-among (f (tables_of k)) us a x w.1 r)
 
     pub refused-command : (c : Command) → tests S (tables_of k) c ≡ f (tables_of k) ++ us → Refused S k c x
@@ -109,12 +80,3 @@ module _ {S : Sizes} {k : Layout} (z : Sized S k) (f : Tables → Tests) (a : An
         go : Ways → Refused S k c x
         go (inl w) = commanded-unsound S k c w.0 ∙ ap (λ (y : Error). record { kernel = k; reply = Reply.refused y }) (let y : Error.Damaged ≡ x = cc in y)
         go (inr w) = refused-by w.0 c (ap first q ∙ refused-among (f (tables_of k)) us a x w.1 r)
-
--- ---- of a command, answered by its whole row
-
-module _ {S : Sizes} {k : Layout} (z : Sized S k) (c : Command) (a : Answer) (e : a ≡ row_answer S k (λ T. tests S T c)) where
-  pub refused-whole : {x : Error} → a ≡ Answer.Refused x → Refused S k c x
-  refused-whole r = refused-command z (λ T. tests S T c) a e [] r c (sym (append-nil _))
-
-  pub done-whole : a ≡ Answer.Done → Accepted S k c
-  done-whole d = accepted-by (done-sound z (λ T. tests S T c) a e d) c (of_passed _ (done-row z (λ T. tests S T c) a e d))

@@ -1,17 +1,10 @@
--- A sound kernel as one value, and what its arrays and counts hold. Every law of a sound kernel takes it.
-use Rattle.model.proofs.Logic.{Bool, List·getD-eq-default, ◌<◌, ◌∙◌, ◌≡◌, ◌≤◌, ap, arith, false, get_or, length, map, not, not-false, sym, take, true, ℕ}
-use Rattle.model.specs.{Kernels.asked, Layouts.Layout, Layouts.Sized, Layouts.lay_out, Layouts.sound_kernel, Layouts.tables_of, Lists.padded, Lists.places, Records.blank_declaration, Records.blank_link, Records.blank_node, Records.is_blank_node, Sizes.Sizes, Tables.Tables, Tables.node_at, Tables.present, declared.records.Node.Node}
+-- What the arrays and counts of a sound kernel hold.
+pub use Rattle.layouts.specs.Sound.{SoundKernel}
+use Rattle.model.proofs.Logic.{Bool, List·getD-eq-default, ◌<◌, ◌∙◌, ◌≡◌, ◌≤◌, ap, arith, false, get_or, length, map, sym, take, true, ℕ}
+use Rattle.model.specs.{Kernels.asked, Layouts.Layout, Layouts.lay_out, Layouts.tables_of, Lists.padded, Lists.places, Records.blank_declaration, Records.blank_link, Records.blank_node, Records.is_blank_node, Sizes.Sizes, Tables.Tables, Tables.node_at, Tables.present, declared.records.Node.Node}
 use Rattle.loops.proofs.{Laws.Flags.flag-nodes}
 use Rattle.loops.specs.{Columns.flag}
 use Rattle.model.proofs.{Laws.Arrays.places-map, Laws.Arrays.places-padded, Laws.Arrays.whole-array, Laws.Blanks.blank_node_lem, Laws.Nodes.present-lt, Theorems.Kernels.asked-sound, Theorems.Layouts.Laid, Theorems.Layouts.declaration_count_lem, Theorems.Layouts.laid_of, Theorems.Layouts.laid_out, Theorems.Layouts.link-count, Theorems.Layouts.node-count, Theorems.Layouts.node-in-array}
-
-pub record SoundKernel (S : Sizes) (k : Layout) : Type 0 where
-  pub sized : Sized S k
-  pub sound : sound_kernel S k ≡ true
-
--- past `if !self.sound() { return .. }`: the arrays' lengths, what sound ensures, and the test
-pub tested_sound : {S : Sizes} {k : Layout} → Sized S k → {s : Bool} → s ≡ sound_kernel S k → not s ≡ false → SoundKernel S k
-tested_sound z e t = record { sized = z; sound = sym e ∙ not-false _ t }
 
 module _ {S : Sizes} {k : Layout} (K : SoundKernel S k) where
   pub laid : Laid S k

@@ -1,7 +1,7 @@
 -- The target of a component of a sound kernel, as a scan of its arrays finds it.
 use Rattle.model.proofs.Logic.{Bool, List, Option, ◌++◌, ◌+◌, ◌-◌, ◌<◌, ◌||◌, ◌∙◌, ◌≡◌, ◌≤◌, ◌⊎◌, ap, arith, cond, false, get_or, inl, inr, le-ltb, length, length-map, lt-ltb, ltb, map, none, not, or-true, refl, set, some, sym, take, true, ℕ}
-use Rattle.model.specs.{Kernels.asked, Layouts.Layout, Layouts.Sized, Layouts.lay_out, Layouts.sound_kernel, Layouts.tables_of, Lifecycle.begun, Lifecycle.begun_link, Lifecycle.begun_node, Lifecycle.bindings, Lists.is_none, Lists.keep, Lists.padded, Records.blank_binding, Records.blank_link, Records.blank_node, Records.is_providing, Records.live_link, Records.port_of, Resolution.Target, Resolution.bind_ports, Resolution.dependency_ports, Resolution.is_dependency_of, Resolution.look_up, Resolution.resolve, Resolution.target, Resolution.target_list, Sizes.Sizes, Tables.node_at, Tables.present, declared.Binding.Binding, declared.Port.Port, declared.Resolution.Resolution, declared.records.Link.Link, declared.records.Node.Node}
-use Rattle.layouts.proofs.{Laws.Anew.Holds, Laws.Anew.holds_more, Laws.Anew.links-held, Laws.Anew.links_to, Laws.Anew.nodes_to, Laws.Nodes.node-and-links, Laws.Sound.SoundKernel, Laws.Sound.ask-sound, Laws.Sound.declaration_count_is, Laws.Sound.laid, Laws.Sound.link-count-is, Laws.Sound.node-has, Laws.Sound.node-is, Laws.Sound.nodes-flagged, Laws.Sound.present-below}
+use Rattle.model.specs.{Kernels.asked, Layouts.Layout, Layouts.lay_out, Layouts.sound_kernel, Layouts.tables_of, Lifecycle.begun, Lifecycle.begun_link, Lifecycle.begun_node, Lifecycle.bindings, Lists.is_none, Lists.keep, Lists.padded, Records.blank_binding, Records.blank_link, Records.blank_node, Records.is_providing, Records.live_link, Records.port_of, Resolution.Target, Resolution.bind_ports, Resolution.dependency_ports, Resolution.is_dependency_of, Resolution.look_up, Resolution.resolve, Resolution.target, Resolution.target_list, Sizes.Sizes, Tables.node_at, Tables.present, declared.Binding.Binding, declared.Port.Port, declared.Resolution.Resolution, declared.records.Link.Link, declared.records.Node.Node}
+use Rattle.layouts.proofs.{Laws.Anew.Holds, Laws.Anew.holds_more, Laws.Anew.links-held, Laws.Anew.links_to, Laws.Anew.nodes_to, Laws.Nodes.node-and-links, Laws.Sound.SoundKernel, Laws.Sound.declaration_count_is, Laws.Sound.laid, Laws.Sound.link-count-is, Laws.Sound.node-has, Laws.Sound.node-is, Laws.Sound.nodes-flagged, Laws.Sound.present-below}
 use Rattle.loops.specs.{Columns.flag}
 use Rattle.model.proofs.{Laws.Arrays.get_d_padded, Laws.Arrays.length-padded, Laws.Arrays.take-padded, Laws.Booleans.cases, Laws.Lists.length-keep, Laws.Lists.place_in, Laws.Resolution.bound-ports, Laws.Resolution.target-bound, Laws.Resolution.target_none, Laws.Resolution.target-resolved, Laws.Resolution.targeted}
 
@@ -74,20 +74,6 @@ module _ (S : Sizes) (k : Layout) (id : ℕ) where
       go : (b : Bool) → is_untargeted (cond b (node_at (tables_of k).nodes id) blank_node) ≡ true → Target.nothing ≡ cond b (target (tables_of k) id) Target.nothing
       go true q = sym (target_none (tables_of k) id q)
       go false q = refl
-
-  -- one that is neither is a sound kernel's
-  pub targeted_sound : Sized S k → is_untargeted (asked S k blank_node (λ T. node_at T.nodes id)) ≡ false → SoundKernel S k
-  unfolding asked
-  targeted_sound z h = record { sized = z; sound = go (sound_kernel S k) h }
-    where
-      go : (b : Bool) → is_untargeted (cond b (node_at (tables_of k).nodes id) blank_node) ≡ false → b ≡ true
-      go true q = refl
-      go false q = sym q
-
-  pub asks-target : (K : SoundKernel S k) → is_untargeted (asked S k blank_node (λ T. node_at T.nodes id)) ≡ false → found S k id ≡ asked S k Target.nothing (λ T. target T id)
-  asks-target K h =
-      let there = sym (ap is_untargeted (ask-sound K blank_node (λ T. node_at T.nodes id) ∙ node-is K id)) ∙ h in
-      sym (ask-sound K Target.nothing (λ T. target T id) ∙ target_found K id there)
 
 -- ---- a target in an array with its count, and a yes/no for "there is one"
 

@@ -1,8 +1,8 @@
 -- A loop that stores what it finds at the first free place of an array of blanks: the start, an entry stored, an entry left out, the end.
-use Rattle.model.proofs.Logic.{Bool, List, [], ◌++◌, ◌+◌, ◌-◌, ◌<◌, ◌∙◌, ◌∷◌, ◌≡◌, ◌≤◌, add-one, ap, append-nil, append_snoc, arith, drop, false, get_or, length, length-append, refl, replicate, set, slice, sym, true, ℕ}
+use Rattle.model.proofs.Logic.{Bool, List, [], ◌++◌, ◌+◌, ◌-◌, ◌<◌, ◌∙◌, ◌∷◌, ◌≡◌, ◌≤◌, add-one, ap, append-nil, append_snoc, arith, drop, false, get_or, length, length-append, refl, replicate, set, sym, true, ℕ}
 use Rattle.model.proofs.{Laws.Arrays.snoc_padded}
-use Rattle.model.specs.{Lists.keep, Lists.padded, Lists.places}
-use Rattle.loops.proofs.{Laws.Scan.part_done, Laws.Scan.part_next, Laws.Scan.rest-done, Laws.Scan.rest-next}
+use Rattle.model.specs.{Lists.padded, Lists.places}
+use Rattle.loops.proofs.{Laws.Scan.rest-done, Laws.Scan.rest-next}
 
 -- with i entries seen, out holds the n that were kept, then blanks; with what is left to scan they make the whole
 pub record Collecting {B W : Type 0} (size : ℕ) (blank : B) (out : List B) (n i : ℕ) (more : List B → W) (w : W) : Type 0 where
@@ -63,18 +63,3 @@ module _ {A : Type 0} (p : A → Bool) (d : A) (xs : List A) (i : ℕ) where
   pub place_none : length xs ≤ i → places p i (drop i xs) ≡ []
   unfolding places
   place_none l = rw (rest-done i xs l, places)
-
--- ---- the entries that pass
-
-module _ {A : Type 0} (p : A → Bool) (d : A) (xs : List A) (end i : ℕ) where
-  pub kept-take : i < end → end ≤ length xs → p (get_or xs i d) ≡ true → keep p (slice i end xs) ≡ get_or xs i d ∷ keep p (slice (i + 1) end xs)
-  unfolding keep
-  kept-take l m t = rw (part_next d i end xs l m, keep, t)
-
-  pub kept-skip : i < end → end ≤ length xs → p (get_or xs i d) ≡ false → keep p (slice i end xs) ≡ keep p (slice (i + 1) end xs)
-  unfolding keep
-  kept-skip l m t = rw (part_next d i end xs l m, keep, t)
-
-  pub kept-none : end ≤ i → keep p (slice i end xs) ≡ []
-  unfolding keep
-  kept-none l = rw (part_done i end xs l, keep)

@@ -1,8 +1,8 @@
 -- The two loops of a compaction within an array, the scan and the blanking of freed places: their states, the start, a turn and the end.
-use Rattle.model.proofs.Logic.{Bool, List, [], ◌++◌, ◌+◌, ◌-◌, ◌<◌, ◌∙◌, ◌∷◌, ◌≡◌, ◌≤◌, add-one, ap, arith, false, get_or, length, refl, set, suc, sym, take, true, ℕ}
-use Rattle.model.specs.{Lists.keep}
-use Rattle.loops.proofs.{Laws.InPlace.compacted-is, Laws.InPlace.kept-is, Laws.InPlace.turn-drops, Laws.InPlace.turn-moves, Laws.InPlace.turn-stays, Laws.Scan.drop-most, Laws.Scan.take-most}
-use Rattle.loops.specs.{InPlace.Scan, InPlace.blanked, InPlace.compacted, InPlace.compaction, InPlace.moved, InPlace.scanned, InPlace.stayed, InPlace.turn, Limits.AtMost}
+use Rattle.model.proofs.Logic.{Bool, List, [], ◌++◌, ◌+◌, ◌-◌, ◌<◌, ◌∙◌, ◌∷◌, ◌≡◌, ◌≤◌, add-one, ap, append_assoc, append-nil, arith, false, get_or, length, refl, set, suc, sym, take, take_all, true, ℕ}
+use Rattle.model.specs.{Lists.keep, Lists.padded}
+use Rattle.loops.proofs.{Laws.InPlace.compacted-is, Laws.InPlace.front_kept, Laws.InPlace.interval-add, Laws.InPlace.interval-next, Laws.InPlace.kept-is, Laws.InPlace.kept_read, Laws.InPlace.turn-drops, Laws.InPlace.turn-moves, Laws.InPlace.turn-stays, Laws.InPlace.written-are, Laws.Scan.rest-done}
+use Rattle.loops.specs.{InPlace.Scan, InPlace.blanked, InPlace.compacted, InPlace.front, InPlace.interval, InPlace.moved, InPlace.scanned, InPlace.stayed, InPlace.turn}
 
 -- the array is the scanned one at place i, and n is how many were kept: so what is a law of `scanned` holds of the array at each point of the loop
 pub record Compacting {A : Type 0} (p : A → Bool) (d : A) (xs : List A) (end i : ℕ) (out : List A) (n : ℕ) : Type 0 where
@@ -80,19 +80,37 @@ blanking_next {n = n} {j} h l e =
     let y : n + (j - n) ≡ j = omega arith in
     record { holds = rw (z, y, ← h.holds, ← e) refl; first = omega arith; last = omega arith }
 
--- both loops are over: the array and the count are those of the compaction
-module _ {A : Type 0} {p : A → Bool} {d : A} {xs t out : List A} {count size end i n j : ℕ} where
+-- a place blanked is written behind the others
+pub blanks_next : (ws : List ℕ) (n j : ℕ) → n ≤ j → ws ++ interval n ((j + 1) - n) ≡ (ws ++ interval n (j - n)) ++ (j ∷ [])
+blanks_next ws n j l =
+    let z : (j + 1) - n ≡ suc (j - n) = omega arith in
+    let y : n + (j - n) ≡ j = omega arith in
+    rw z (ap (λ (is : List ℕ). ws ++ is) (rw y at (interval-next n (j - n))) ∙ sym (append_assoc ws (interval n (j - n)) (j ∷ [])))
+
+-- both loops are over: the table is the kept records, then blanks, and the count is theirs
+module _ {A : Type 0} {p : A → Bool} {d : A} {xs t out : List A} {i n j : ℕ} where
   pub compacting-done :
-      {R : Type 0} (make : List A → ℕ → R) → Compacting p d xs end i t n → end ≤ i → Blanking d t end n j out → end ≤ j → length xs ≡ size → AtMost count size end →
-      make out n ≡ compaction p d make count xs
+      Compacting p d xs (length xs) i t n → length xs ≤ i → Blanking d t (length xs) n j out → length xs ≤ j →
+      (out ≡ padded (length xs) d (keep p xs)) × (n ≡ length (keep p xs))
   unfolding compacted
-  compacting-done make h l g m e a =
-      let w : end ≤ length xs = omega (arith, a.within) in
-      let y : i ≡ end = omega (arith, h.reached) in
-      let z : j ≡ end = omega (arith, g.last) in
-      let c : n ≡ (scanned p d xs end).kept = rw y at h.counted in
-      let r : t ≡ (scanned p d xs end).table = rw y at h.holds in
-      let f : take end xs ≡ take count xs = take-most count size end xs e a in
-      let o : out ≡ compacted p d count xs = (rw z at g.holds) ∙ (rw (← c, ← r, f, drop-most count size end xs e a) at (compacted-is p d xs end w)) in
-      let k : n ≡ length (keep p (take count xs)) = rw (← f) (c ∙ kept-is p d xs end w) in
-      λ v. make (o v) (k v)
+  compacting-done h l g m =
+      let size = length xs in
+      let y : i ≡ size = omega (arith, h.reached) in
+      let z : j ≡ size = omega (arith, g.last) in
+      let c : n ≡ (scanned p d xs size).kept = rw y at h.counted in
+      let r : t ≡ (scanned p d xs size).table = rw y at h.holds in
+      let f : take size xs ≡ xs = take_all size xs (omega arith) in
+      let o : out ≡ compacted p d size xs = (rw z at g.holds) ∙ (rw (← c, ← r) at (compacted-is p d xs size (omega arith))) in
+      (o ∙ rw (f, rest-done size xs (omega arith)) (append-nil (padded size d (keep p xs))), c ∙ kept-is p d xs size (omega arith) ∙ rw f refl)
+
+-- and the places written, with those blanked behind them, are those from the first dropped record on, each once
+pub writes-done : {A : Type 0} (p : A → Bool) (d : A) (xs : List A) (n : ℕ) → n ≡ (scanned p d xs (length xs)).kept → (scanned p d xs (length xs)).written ++ interval n (length xs - n) ≡ interval (front p xs) (length xs - front p xs)
+writes-done p d xs n c =
+    let size = length xs in
+    let f = front p xs in
+    let k = (scanned p d xs size).kept in
+    let l : f ≤ k = front_kept p d xs in
+    let m : k ≤ size = kept_read p d xs size (omega arith) in
+    let a : f + (k - f) ≡ k = omega arith in
+    let b : (k - f) + (size - k) ≡ size - f = omega arith in
+    rw (c, written-are p d xs size (omega arith)) (sym (rw (b, a) at (interval-add f (k - f) (size - k))))

@@ -1,56 +1,48 @@
--- A scan of a list for a port that comes again or passes a test: what is left to scan answers as the whole does.
-use Rattle.model.proofs.Logic.{Bool, List, [], ◌&&◌, ◌+◌, ◌<◌, ◌∙◌, ◌∷◌, ◌≡◌, ◌≤◌, and-false, and-true, ap, arith, false, get_or, length, not, refl, slice, sym, take, true, ℕ}
-use Rattle.model.specs.{Interface.distinct, Lists.any, Records.blank_port, Records.same_port, declared.Port.Port}
-use Rattle.loops.proofs.{Laws.Scan.part_done, Laws.Scan.part_next, Laws.Scan.take-most, Laws.Scanning.Seeking}
-use Rattle.loops.specs.{Limits.AtMost}
+-- A list read for a port that comes again or passes a test: what is left of it answers as the whole does.
+use Rattle.model.proofs.Logic.{Bool, List, ◌&&◌, ◌+◌, ◌-◌, ◌<◌, ◌≡◌, ◌≤◌, arith, drop, false, get_or, length, length-drop, not, take, take_all, true, ℕ}
+use Rattle.model.specs.{Interface.distinct, Lists.any, Records.same_port, declared.Port.Port}
+use Rattle.loops.proofs.{Laws.Scan.rest-done, Laws.Scan.rest-next}
 
 -- no port twice, and none that passes the test
 abbrev pub distinct_apart : (Port → Bool) → List Port → Bool
 distinct_apart bad ps = distinct ps && not (any bad ps)
 
--- a test that no port passes
-abbrev pub never : Port → Bool
-never p = false
+-- what stands behind place i
+abbrev pub behind : List Port → ℕ → List Port
+behind ps i = take (length ps - (i + 1)) (drop (i + 1) ps)
 
-pub never-apart : (ps : List Port) → distinct_apart never ps ≡ distinct ps
-unfolding any
-never-apart ps = rw (none ps) (and-true (distinct ps))
-  where
-    none : (qs : List Port) → any never qs ≡ false
-    none [] = refl
-    none (q ∷ qs) = none qs
+behind_is : (ps : List Port) (i : ℕ) → behind ps i ≡ drop (i + 1) ps
+behind_is ps i = take_all (length ps - (i + 1)) (drop (i + 1) ps) (omega (arith, length-drop (i + 1) ps))
 
--- what is left from place i up to the end is answered w
-pub record Apart (bad : Port → Bool) (ps : List Port) (end i : ℕ) (w : Bool) : Type 0 where
-  pub fits : end ≤ length ps
-  pub left : distinct_apart bad (slice i end ps) ≡ w
+-- ---- a port that comes again
 
-pub apart-start : {bad : Port → Bool} {ps : List Port} {count n end : ℕ} → length ps ≡ n → AtMost count n end → Apart bad ps end 0 (distinct_apart bad (take count ps))
-apart-start {bad} {ps} {count} {n} {end} e m = record { fits = omega (arith, m.within); left = ap (distinct_apart bad) (take-most count n end ps e m) }
-
-module _ {bad : Port → Bool} {ps : List Port} {end i : ℕ} {w : Bool} (h : Apart bad ps end i w) where
-  -- whether a port comes again behind this place
-  pub again-start : (p : Port) → Seeking (same_port p) ps end (i + 1) (any (same_port p) (slice (i + 1) end ps))
-  again-start p = record { fits = h.fits; left = refl }
-
-  next : i < end → distinct_apart bad (get_or ps i blank_port ∷ slice (i + 1) end ps) ≡ w
-  next l = rw (part_next blank_port i end ps l h.fits) at h.left
-
-  -- this port does not come again and fails the test
-  pub apart-on : i < end → false ≡ any (same_port (get_or ps i blank_port)) (slice (i + 1) end ps) → false ≡ bad (get_or ps i blank_port) → Apart bad ps end (i + 1) w
-  unfolding distinct any
-  apart-on l t b = record { fits = h.fits; left = rw (distinct, any, ← t, ← b) at (next l) }
-
-  -- it comes again
-  pub apart-twice : i < end → true ≡ any (same_port (get_or ps i blank_port)) (slice (i + 1) end ps) → false ≡ w
+module _ (ps : List Port) (i : ℕ) (d : Port) (l : i < length ps) where
+  pub distinct_next : any (same_port (get_or ps i d)) (behind ps i) ≡ false → distinct (drop (i + 1) ps) ≡ distinct (drop i ps)
   unfolding distinct
-  apart-twice l t = rw (distinct, ← t) at (next l)
+  distinct_next a = let f : any (same_port (get_or ps i d)) (drop (i + 1) ps) ≡ false = rw behind_is at a in rw (rest-next d i ps l, distinct, f)
 
-  -- it passes the test
-  pub apart-hit : i < end → true ≡ bad (get_or ps i blank_port) → false ≡ w
-  unfolding any
-  apart-hit l b = sym (and-false (distinct (get_or ps i blank_port ∷ slice (i + 1) end ps))) ∙ (rw (any, ← b) at (next l))
+  pub distinct_twice : any (same_port (get_or ps i d)) (behind ps i) ≡ true → distinct (drop i ps) ≡ false
+  unfolding distinct
+  distinct_twice a = let f : any (same_port (get_or ps i d)) (drop (i + 1) ps) ≡ true = rw behind_is at a in rw (rest-next d i ps l, distinct, f)
 
-  pub apart-end : end ≤ i → true ≡ w
-  unfolding distinct any
-  apart-end l = rw (part_done i end ps l, distinct, any) at h.left
+pub distinct_end : (ps : List Port) (i : ℕ) → length ps ≤ i → distinct (drop i ps) ≡ true
+unfolding distinct
+distinct_end ps i l = rw (rest-done i ps l, distinct)
+
+-- ---- or one that passes the test
+
+module _ (bad : Port → Bool) (ps : List Port) (i : ℕ) (d : Port) (l : i < length ps) where
+  abbrev port : Port
+  port = get_or ps i d
+
+  pub apart_next : any (same_port port) (behind ps i) ≡ false → bad port ≡ false → distinct_apart bad (drop (i + 1) ps) ≡ distinct_apart bad (drop i ps)
+  unfolding distinct
+  apart_next a b = let f : any (same_port port) (drop (i + 1) ps) ≡ false = rw behind_is at a in rw (rest-next d i ps l, distinct, f, b)
+
+  pub apart_twice : any (same_port port) (behind ps i) ≡ true → distinct_apart bad (drop i ps) ≡ false
+  unfolding distinct
+  apart_twice a = let f : any (same_port port) (drop (i + 1) ps) ≡ true = rw behind_is at a in rw (rest-next d i ps l, distinct, f)
+
+pub apart_end : (bad : Port → Bool) (ps : List Port) (i : ℕ) → length ps ≤ i → distinct_apart bad (drop i ps) ≡ true
+unfolding distinct
+apart_end bad ps i l = rw (rest-done i ps l, distinct)

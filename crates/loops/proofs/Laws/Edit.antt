@@ -2,8 +2,7 @@
 use Rattle.model.proofs.Logic.{List, [], ◌++◌, ◌+◌, ◌<◌, ◌∙◌, ◌∷◌, ◌≡◌, ◌≤◌, add-one, ap, append_assoc, append-nil, append_snoc, arith, drop, get_or, get_or_at, length, length-append, length-map, length-take-le, map, map-append, set, set_at, sym, take, take_all, take-suc, ℕ}
 use Rattle.model.proofs.{Laws.Arrays.snoc_padded}
 use Rattle.model.specs.{Lists.padded}
-use Rattle.loops.proofs.{Laws.Scan.drop-most, Laws.Scan.rest-done, Laws.Scan.rest-next, Laws.Scan.take-most}
-use Rattle.loops.specs.{Limits.AtMost}
+use Rattle.loops.proofs.{Laws.Scan.rest-done, Laws.Scan.rest-next}
 
 -- ---- a function of the first entries of a list, one more of them
 
@@ -32,10 +31,6 @@ module _ {A : Type 0} (f : A → A) (xs : List A) where
       let read : get_or ys i d ≡ x = rw was (get_or_at front x rest d i len) in
       let now : set ys i v ≡ front ++ (f x ∷ rest) = rw (was, e, read) (set_at front x rest (f x) i len) in
       now ∙ sym (append_snoc front (f x) rest) ∙ ap (λ (zs : List A). zs ++ rest) (sym (firsts_next f xs i d l))
-
-  -- up to a count that stops at the length
-  pub edited-most : (count n end : ℕ) → length xs ≡ n → AtMost count n end → edited f end xs ≡ edited f count xs
-  edited-most count n end e m = rw (take-most count n end xs e m, drop-most count n end xs e m)
 
   pub edited-whole : (i : ℕ) → length xs ≤ i → edited f i xs ≡ map f xs
   edited-whole i l = rw (take_all i xs l, rest-done i xs l) (append-nil (map f xs))

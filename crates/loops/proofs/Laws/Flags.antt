@@ -13,7 +13,7 @@ flag-entry size fs len id = go (dec_lt id size)
     go (no l) = rw (le-ltb id size (omega arith)) (sym (List·getD-eq-default fs false {n = id} (omega arith)))
 
 -- where the entries from n on are blank: of the nodes below n
-pub column-nodes :
+column-nodes :
     {B : Type 0} {b : B} (size : ℕ) (f : Node → B) → f blank_node ≡ b → (ns : List Node) → length ns ≡ size → (n : ℕ) → n ≤ size → all is_blank_node (drop n ns) ≡ true
     → (id : ℕ) → get_or (map f ns) id b ≡ f (node_at (take n ns) id)
 unfolding node_at

@@ -29,7 +29,6 @@ module _ {A : Type 0} (p : A → Bool) (xs : List A) where
   kept-within i = omega (arith, length-keep p (take i xs), length-take i xs, min-le_left i (length xs))
 
   keep_one : (x : A) (b : Bool) → p x ≡ b → keep p (x ∷ []) ≡ cond b (x ∷ []) []
-  unfolding keep
   keep_one x b e = rw e
 
   pub kept_next : (i : ℕ) (d : A) (b : Bool) → i < length xs → p (get_or xs i d) ≡ b → keep p (take (suc i) xs) ≡ keep p (take i xs) ++ cond b (get_or xs i d ∷ []) []
@@ -81,7 +80,7 @@ module _ {A : Type 0} (p : A → Bool) (d : A) (xs : List A) where
           rw (turn-drops p d i s (rw reads t)) (record { holds = rw n h.holds; counts = rw n h.counts })
 
   stands : (i : ℕ) → i ≤ length xs → Stands p xs i (scanned p d xs i)
-  unfolding scanned keep
+  unfolding scanned
   stands zero l = record { holds = refl; counts = refl }
   stands (suc i) l = let s = scanned p d xs i in stands_next i s (stands i (omega arith)) (omega arith) (p (get_or xs i d)) refl (dec_lt s.kept i)
 
@@ -206,6 +205,11 @@ unfolding interval
 length-interval n zero = refl
 length-interval n (suc m) = ap suc (length-interval (suc n) m)
 
+pub interval-add : (n m k : ℕ) → interval n (m + k) ≡ interval n m ++ interval (n + m) k
+unfolding interval
+interval-add n zero k = let e : 0 + k ≡ k = omega arith in let f : n ≡ n + 0 = omega arith in rw (e, ← f)
+interval-add n (suc m) k = let e : suc m + k ≡ suc (m + k) = omega arith in let f : suc n + m ≡ n + suc m = omega arith in rw e (ap (λ (ks : List ℕ). n ∷ ks) (rw f at (interval-add (suc n) m k)))
+
 places-append : {A : Type 0} (p : A → Bool) (n : ℕ) (ys zs : List A) → places p n (ys ++ zs) ≡ places p n ys ++ places p (n + length ys) zs
 unfolding places
 places-append p n [] zs = let e : n ≡ n + 0 = omega arith in ap (λ (k : ℕ). places p k zs) e
@@ -290,6 +294,14 @@ module _ {A : Type 0} (p : A → Bool) (d : A) (xs : List A) where
       go : Progress i (scanned p d xs i) → ((scanned p d xs i).kept < i) ↔ (front p xs < i)
       go (ahead a k e f g) = (λ m. absurd (omega arith), λ m. absurd (omega arith))
       go (past a k m f g) = (λ z. a, λ z. m)
+
+  -- in the end no fewer are kept than stand in front
+  pub front_kept : front p xs ≤ (scanned p d xs (length xs)).kept
+  front_kept = go (progress (length xs) (omega arith))
+    where
+      go : Progress (length xs) (scanned p d xs (length xs)) → front p xs ≤ (scanned p d xs (length xs)).kept
+      go (ahead a k e f g) = omega (arith, front-within p d xs)
+      go (past a k m f g) = k
 
   module _ (i : ℕ) (l : i ≤ length xs) where
     -- each kept record behind a dropped one is moved, once and in order, as it is read
@@ -378,5 +390,5 @@ compacted-padded p d size ys l =
 
 -- with no record below the count the table is as it was
 pub compacted-none : {A : Type 0} (p : A → Bool) (d : A) (xs : List A) → compacted p d 0 xs ≡ xs
-unfolding compacted padded keep
+unfolding compacted padded
 compacted-none p d xs = refl

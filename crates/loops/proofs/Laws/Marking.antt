@@ -1,9 +1,9 @@
 -- The order of links by one pass that marks the providers met: what is left to test, a step on, a hit and the end.
-use Rattle.model.proofs.Logic.{Bool, Bool·not-not, List, [], ◌&&◌, ◌<◌, ◌||◌, ◌∙◌, ◌∷◌, ◌≡◌, ◌⊎◌, and_comm, and-false, and-true, ap, cond, eqb, eqb-false, eqb-true, false, get_or, get_or-set_other, get_or-set_same, inl, inr, length, ltb, ltb-true, ne_eqb, not, refl, replicate, set, suc, sym, true, zero, ℕ}
-use Rattle.model.specs.{Lists.◌⇒◌, Lists.all, Lists.any, Lists.conj, Lists.onward, Records.consumer_in, Records.declared_port, Records.owner_in, Records.port_in, Records.provider_in, Soundness.apart, Soundness.dead_ok, Soundness.declares, Soundness.end_tests, Soundness.episode_ok, Soundness.is_covered, Soundness.is_declaration, Soundness.link_ok, Soundness.link_tests, Soundness.links_to, Soundness.ordered, declared.records.Declaration.Declaration, declared.records.Link.Link}
-use Rattle.model.proofs.{Laws.Booleans.Each, Laws.Booleans.and_l, Laws.Booleans.and_r, Laws.Booleans.cases, Laws.Booleans.each, Laws.Booleans.imp_e, Laws.Lists.in_all}
-use Rattle.loops.proofs.{Laws.Chains.is-dependency, Laws.Passes.all_both}
-use Rattle.loops.specs.{Columns.flag, Marks.marked, Marks.meets, Marks.unmarked, Passes.link_passes}
+use Rattle.model.proofs.Logic.{arith, Bool, Bool·not-not, List, [], ◌&&◌, ◌<◌, ◌+◌, ◌≤◌, ◌||◌, ◌∙◌, ◌∷◌, ◌≡◌, ◌⊎◌, and_comm, and-false, and-true, ap, cond, dec_lt, drop, eqb, eqb-false, eqb-true, false, get_or, get_or-set_other, get_or-set_same, inl, inr, length, lt-ltb, ltb-true, ne_eqb, not, refl, replicate, set, suc, sym, true, zero, ℕ}
+use Rattle.model.specs.{Lists.◌⇒◌, Lists.all, Lists.any, Lists.conj, Lists.onward, Records.blank_link, Records.blank_node, Records.consumer_in, Records.is_installed, Records.is_serving, Records.declared_port, Records.owner_in, Records.port_in, Records.provider_in, Soundness.apart, Soundness.dead_ok, Soundness.declares, Soundness.end_tests, Soundness.episode_ok, Soundness.is_covered, Soundness.is_declaration, Soundness.link_ok, Soundness.link_tests, Soundness.links_to, Soundness.ordered, declared.records.Declaration.Declaration, Tables.generation_at, Tables.installed, Tables.node_at, Tables.serving, declared.records.Link.Link, declared.records.Node.Node}
+use Rattle.model.proofs.{Laws.Booleans.Each, Laws.Booleans.and_l, Laws.Booleans.and_r, Laws.Booleans.cases, Laws.Booleans.clash, Laws.Booleans.each, Laws.Booleans.imp_e, Laws.Lists.in_all, Laws.Nodes.past-blank, Laws.Pieces.refuted}
+use Rattle.loops.proofs.{Laws.Chains.is-dependency, Laws.Passes.all_both, Laws.Scan.rest-done, Laws.Scan.rest-next}
+use Rattle.loops.specs.{Marks.marked, Marks.meets, Marks.unmarked, Passes.link_passes}
 
 -- what is left to test: no consumer of the rest is marked, and the rest is ordered
 abbrev pub left_to_order : List Bool → List Link → Bool
@@ -35,7 +35,7 @@ module _ (seen : List Bool) (l : Link) (b : l.live ≡ true → provider_in l < 
       go false e = sym (and-true (unmarked seen m))
 
   mark_step : (ls : List Link) → left_to_order seen (l ∷ ls) ≡ unmarked (marked seen l) l && left_to_order (marked seen l) ls
-  unfolding all onward
+  unfolding onward
   mark_step ls = rw (mark_one l, all_both (unmarked seen) (apart l) (unmarked (marked seen l)) mark_one ls) (regroup (unmarked seen l) (all (unmarked seen) ls) (apart l l) (all (apart l) ls) (ordered ls))
     where
       regroup : (a b c d e : Bool) → (a && b) && ((c && d) && e) ≡ (a && c) && ((b && d) && e)
@@ -49,33 +49,21 @@ module _ (seen : List Bool) (l : Link) (b : l.live ≡ true → provider_in l < 
 abbrev pub left_to_pass : (Link → Bool) → List Bool → List Link → Bool
 left_to_pass ok seen ls = all ok ls && left_to_order seen ls
 
--- the provider of a live link that passes has a mark of its own
-abbrev Marking : (Link → Bool) → List Bool → Link → Type 0
-Marking ok seen l = ok l ≡ true → l.live ≡ true → provider_in l < length seen
-
-module _ (ok : Link → Bool) (seen : List Bool) (l : Link) (rest rest' : List Link) (w : Bool) (b : Marking ok seen l) (e : rest ≡ l ∷ rest') (h : left_to_pass ok seen rest ≡ w) where
-  first : all ok (l ∷ rest') ≡ ok l && all ok rest'
-  unfolding all
-  first = refl
-
-  pub pass_next : ok l && unmarked (marked seen l) l ≡ true → left_to_pass ok (marked seen l) rest' ≡ w
-  pass_next t =
+module _ (ok : Link → Bool) (seen : List Bool) (l : Link) (ls : List Link) (w : Bool) (b : ok l ≡ true → provider_in l < length seen) (h : left_to_pass ok seen (l ∷ ls) ≡ w) where
+  first-passes : ok l && unmarked (marked seen l) l ≡ true → left_to_pass ok (marked seen l) ls ≡ w
+  first-passes t =
       let o : ok l ≡ true = and_l (ok l) _ t in
       let u : unmarked (marked seen l) l ≡ true = and_r (ok l) _ t in
-      rw (e, first, o, mark_step seen l (b o) rest', u) at h
+      rw (o, mark_step seen l (λ _. b o) ls, u) at h
 
-  pub pass_hit : ok l && unmarked (marked seen l) l ≡ false → false ≡ w
-  pass_hit t = go (cases (ok l))
+  first-fails : ok l && unmarked (marked seen l) l ≡ false → false ≡ w
+  first-fails t = go (cases (ok l))
     where
       go : (ok l ≡ true) ⊎ (ok l ≡ false) → false ≡ w
       go (inl o) =
           let u : unmarked (marked seen l) l ≡ false = rw o at t in
-          sym (and-false (all ok rest')) ∙ (rw (e, first, o, mark_step seen l (b o) rest', u) at h)
-      go (inr o) = rw (e, first, o) at h
-
-pub pass_done : (ok : Link → Bool) (seen : List Bool) (rest : List Link) (w : Bool) → rest ≡ [] → left_to_pass ok seen rest ≡ w → true ≡ w
-unfolding all onward
-pass_done ok seen rest w e h = rw (e, all, onward) at h
+          sym (and-false (all ok ls)) ∙ (rw (o, mark_step seen l (λ _. b o) ls, u) at h)
+      go (inr o) = rw o at h
 
 -- no marks
 pub mark_none : (n : ℕ) (ls : List Link) → left_to_order (replicate n false) ls ≡ ordered ls
@@ -88,27 +76,67 @@ mark_none n ls = rw (in_all (unmarked (replicate n false)) ls (λ m k. rw (none_
 
 -- ---- one link
 
--- the provider of a live link that passes is below the size of the column
-pub provider_below : (n : ℕ) (installs : ℕ → Bool) (serves : List Bool) (ds : List Declaration) (l : Link) → link_ok installs (flag n serves) ds l ≡ true → l.live ≡ true → provider_in l < n
-unfolding link_ok
-provider_below n installs serves ds l h t =
-    let tests = link_tests installs (flag n serves) ds l in
-    let q : Each tests = each tests (imp_e l.live (conj tests) h t) in
-    ltb-true (provider_in l) n (and_l (ltb (provider_in l) n) _ q.1.0)
+-- who is installed, or serves, is one of the nodes
+below : (f : Node → Bool) → f blank_node ≡ false → (ns : List Node) (id : ℕ) → f (node_at ns id) ≡ true → id < length ns
+below f dark ns id t = go (dec_lt id (length ns))
+  where
+    go : Dec (id < length ns) → id < length ns
+    go (yes m) = m
+    go (no m) = clash (f blank_node) (rw (past-blank ns id (omega arith)) at t) dark
 
--- a dead link passes where its ends are issued, marks no provider and meets no dependency
+-- a link that passes has both ends among the nodes
+module _ (ns : List Node) (ds : List Declaration) (l : Link) where
+  ends_below : link_passes ns ds l ≡ true → (consumer_in l < length ns) × (provider_in l < length ns)
+  unfolding link_ok dead_ok
+  ends_below h = go (cases l.live)
+    where
+      both : link_ok (installed ns) (serving ns) ds l && dead_ok (length ns) l ≡ true
+      both = and_l _ _ h
+
+      go : (l.live ≡ true) ⊎ (l.live ≡ false) → (consumer_in l < length ns) × (provider_in l < length ns)
+      go (inl t) =
+          let tests = link_tests (installed ns) (serving ns) ds l in
+          let q : Each tests = each tests (imp_e l.live (conj tests) (and_l _ _ both) t) in
+          (below is_installed refl ns (consumer_in l) q.0, below is_serving refl ns (provider_in l) q.1.0)
+      go (inr t) =
+          let tests = end_tests (length ns) l in
+          let q : Each tests = each tests (imp_e (not l.live) (conj tests) (and_r (link_ok (installed ns) (serving ns) ds l) _ both) (rw t)) in
+          (ltb-true (consumer_in l) (length ns) q.0, ltb-true (provider_in l) (length ns) q.1.0)
+
+  -- so one with an end past the nodes fails
+  pub end_past : (consumer_in l < length ns → provider_in l < length ns → ⊥) → link_passes ns ds l ≡ false
+  end_past f = refuted (link_passes ns ds l) (λ t. let e = ends_below t in f e.0 e.1)
+
+-- the links from place i on, where each node has a mark
+module _ (ns : List Node) (ds : List Declaration) (seen : List Bool) (ls : List Link) (i : ℕ) {w : Bool} (n : length ns ≤ length seen) (m : i < length ls) (h : left_to_pass (link_passes ns ds) seen (drop i ls) ≡ w) where
+  abbrev link : Link
+  link = get_or ls i blank_link
+
+  split : left_to_pass (link_passes ns ds) seen (link ∷ drop (i + 1) ls) ≡ w
+  split = ap (left_to_pass (link_passes ns ds) seen) (sym (rest-next blank_link i ls m)) ∙ h
+
+  marks : link_passes ns ds link ≡ true → provider_in link < length seen
+  marks t = let e = ends_below ns ds link t in omega (arith, e.1)
+
+  pub pass_next : link_passes ns ds link && unmarked (marked seen link) link ≡ true → left_to_pass (link_passes ns ds) (marked seen link) (drop (i + 1) ls) ≡ w
+  pass_next t = first-passes (link_passes ns ds) seen link (drop (i + 1) ls) w marks split t
+
+  pub pass_hit : link_passes ns ds link && unmarked (marked seen link) link ≡ false → false ≡ w
+  pass_hit t = first-fails (link_passes ns ds) seen link (drop (i + 1) ls) w marks split t
+
+pub pass_end : (ok : Link → Bool) (seen : List Bool) (ls : List Link) (i : ℕ) {w : Bool} → length ls ≤ i → left_to_pass ok seen (drop i ls) ≡ w → true ≡ w
+unfolding onward
+pass_end ok seen ls i m h = rw (rest-done i ls m, all, onward) at h
+
+-- a dead link passes where its ends are issued, and meets no dependency
 module _ (l : Link) (t : l.live ≡ false) where
-  pub dead-ends : (issued : ℕ) (generation : ℕ → ℕ) (installs serves : ℕ → Bool) (ds : List Declaration) (seen : List Bool)
-      → link_passes issued generation installs serves ds l && unmarked (marked seen l) l ≡ conj (end_tests issued l)
+  pub dead_passes : (ns : List Node) (ds : List Declaration) (seen : List Bool) → consumer_in l < length ns → provider_in l < length ns → link_passes ns ds l && unmarked (marked seen l) l ≡ true
   unfolding link_ok dead_ok episode_ok
-  dead-ends issued generation installs serves ds seen = let ends = conj (end_tests issued l) in rw (t, and-true ends) (and-true ends)
+  dead_passes ns ds seen c p = rw (t, lt-ltb (consumer_in l) (length ns) c, lt-ltb (provider_in l) (length ns) p)
 
-  pub dead-marked : (seen : List Bool) → marked seen l ≡ seen
-  dead-marked seen = rw t
-
-  pub dead-meets : (d : Declaration) → meets d l ≡ false
+  pub dead_meets : (d : Declaration) → meets d l ≡ false
   unfolding links_to
-  dead-meets d = rw (t, and-false (not d.provides))
+  dead_meets d = rw (t, and-false (not d.provides))
 
 eqb_comm : (a b : ℕ) → eqb a b ≡ eqb b a
 eqb_comm a b = go (cases (eqb a b))
@@ -119,37 +147,37 @@ eqb_comm a b = go (cases (eqb a b))
 
 -- a live link
 module _ (l : Link) (t : l.live ≡ true) where
-  module _ (issued : ℕ) (generation : ℕ → ℕ) (installs serves : ℕ → Bool) (ds : List Declaration) (seen : List Bool) where
-    -- an end fails
-    pub ends-fail : installs (consumer_in l) && serves (provider_in l) ≡ false → link_passes issued generation installs serves ds l && unmarked (marked seen l) l ≡ false
-    unfolding link_ok dead_ok episode_ok
-    ends-fail h = rw (t, h)
+  module _ (ns : List Node) (ds : List Declaration) (seen : List Bool) where
+    -- its ends are installed, its provider serving and of its generation
+    abbrev holds : Bool
+    holds = installed ns (consumer_in l) && serving ns (provider_in l) && eqb l.generation (generation_at ns (provider_in l))
 
-    -- its provider has another generation
-    pub episode-fails : eqb l.generation (generation (provider_in l)) ≡ false → link_passes issued generation installs serves ds l && unmarked (marked seen l) l ≡ false
-    unfolding episode_ok
-    episode-fails h =
-        let ok = link_ok installs serves ds l && dead_ok issued l in
-        let other : episode_ok generation l ≡ false = rw (t, h) in
-        ap (λ (b : Bool). b && unmarked (marked seen l) l) (ap (λ (b : Bool). ok && b) other ∙ and-false ok)
+    pub live_fails : holds ≡ false → link_passes ns ds l && unmarked (marked seen l) l ≡ false
+    unfolding link_ok dead_ok episode_ok
+    live_fails h = rw t (go (installed ns (consumer_in l) && serving ns (provider_in l)) _ _ _ (eqb l.generation (generation_at ns (provider_in l))) h)
+      where
+        go : (a b c u e : Bool) → a && e ≡ false → (a && b && c && true && e) && u ≡ false
+        go false b c u e h = refl
+        go true false c u e h = refl
+        go true true false u e h = refl
+        go true true true u e h = rw h
 
     -- both ends declared the port
     abbrev both : Bool
     both = declares ds (consumer_in l) (port_in l) false && declares ds (provider_in l) (port_in l) true
 
     -- the rest decides
-    pub ends-pass : installs (consumer_in l) && serves (provider_in l) ≡ true → eqb l.generation (generation (provider_in l)) ≡ true
-        → link_passes issued generation installs serves ds l && unmarked (marked seen l) l ≡ both && not (get_or (set seen (provider_in l) true) (consumer_in l) false)
+    pub live_decides : holds ≡ true → link_passes ns ds l && unmarked (marked seen l) l ≡ both && not (get_or (set seen (provider_in l) true) (consumer_in l) false)
     unfolding link_ok dead_ok episode_ok
-    ends-pass h e = rw (t, h, e, and-true both, and-true both)
-
-  pub live-marked : (seen : List Bool) → set seen (provider_in l) true ≡ marked seen l
-  live-marked seen = rw t
+    live_decides h =
+        let ends = and_l (installed ns (consumer_in l) && serving ns (provider_in l)) _ h in
+        let episode = and_r (installed ns (consumer_in l) && serving ns (provider_in l)) _ h in
+        rw (t, ends, episode, and-true both, and-true both)
 
   -- it meets its consumer's dependencies on its port
-  pub live-meets : (d : Declaration) → is_declaration (consumer_in l) (port_in l) false d ≡ meets d l
+  pub live_meets : (d : Declaration) → is_declaration (consumer_in l) (port_in l) false d ≡ meets d l
   unfolding links_to
-  live-meets d =
+  live_meets d =
       let owner = eqb_comm (owner_in d) (consumer_in l) in
       let key = eqb_comm (declared_port d).key (port_in l).key in
       let realm = eqb_comm (declared_port d).realm (port_in l).realm in
@@ -158,7 +186,6 @@ module _ (l : Link) (t : l.live ≡ true) where
 -- ---- what is met
 
 any-meets : (d : Declaration) (ls : List Link) → any (meets d) ls ≡ not d.provides && any (links_to (owner_in d) (declared_port d)) ls
-unfolding any
 any-meets d ls = go d.provides ls
   where
     go : (b : Bool) (xs : List Link) → any (λ (l : Link). not b && links_to (owner_in d) (declared_port d) l) xs ≡ not b && any (links_to (owner_in d) (declared_port d)) xs

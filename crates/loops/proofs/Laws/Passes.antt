@@ -1,9 +1,8 @@
--- One pass that asks two or three things of each entry asks each of every entry; and what is asked of a node, by its parent.
-use Rattle.model.proofs.Logic.{Bool, List, [], ◌&&◌, ◌<◌, ◌∙◌, ◌∷◌, ◌≡◌, ◌≤◌, ◌⊎◌, ap, false, get_or, inl, inr, le-ltb, lt-ltb, not, refl, suc, take, true, ℕ}
-use Rattle.model.specs.{Lists.◌⇒◌, Lists.all, Lists.all_at, Records.blank_node, Records.is_consistent, Records.parent_in, Soundness.absent_ok, Soundness.node_ok, Soundness.parent_ok, Soundness.smaller, declared.Parent.Parent, declared.records.Node.Node}
-use Rattle.model.proofs.{Laws.Booleans.cases}
-use Rattle.loops.proofs.{Laws.Parents.parent-early, Laws.Parents.parent-late}
-use Rattle.loops.specs.{Passes.node_passes}
+-- One pass that asks two or three things of each entry asks each of every entry; what is asked of a node, by its parent; and a loop that asks it.
+use Rattle.model.proofs.Logic.{Bool, List, [], ◌&&◌, ◌+◌, ◌<◌, ◌∙◌, ◌∷◌, ◌≡◌, ◌≤◌, add-one, and-true, ap, drop, false, get_or, length, ltb, not, refl, suc, sym, true, ℕ}
+use Rattle.model.specs.{Lists.◌⇒◌, Lists.all, Lists.all_at, Records.is_consistent, Records.parent_in, Soundness.absent_ok, Soundness.node_ok, Soundness.parent_ok, Soundness.smaller, Tables.present, declared.Parent.Parent, declared.records.Node.Node}
+use Rattle.loops.proofs.{Laws.Scan.rest-done, Laws.Scan.rest-next}
+use Rattle.loops.specs.{Passes.node_passes, Passes.parent_passes}
 
 regroup : (a b c d : Bool) → (a && b) && (c && d) ≡ (a && c) && (b && d)
 regroup false b c d = refl
@@ -13,7 +12,6 @@ regroup true false true d = refl
 regroup true false false d = refl
 
 pub all_both : {A : Type 0} (p q r : A → Bool) → ((x : A) → r x ≡ p x && q x) → (xs : List A) → all r xs ≡ all p xs && all q xs
-unfolding all
 all_both p q r h [] = refl
 all_both p q r h (x ∷ xs) = rw (h x, all_both p q r h xs) (regroup (p x) (q x) (all p xs) (all q xs))
 
@@ -27,41 +25,29 @@ all_at-both p q i (x ∷ xs) = rw (all_at-both p q (suc i) xs) (regroup (p i x) 
 
 -- ---- a node
 
-module _ (ns : List Node) (i : ℕ) (n : Node) where
-  -- what is asked, from its parts
-  asks : {c b : Bool} {q : Parent} → is_consistent n ≡ c → n.present ≡ b → parent_in n ≡ q → node_passes ns i n ≡ (c && (b ⇒ parent_ok ns i q)) && (not b ⇒ smaller i q)
-  unfolding node_ok absent_ok
-  asks c b q = λ k. (c k && (b k ⇒ parent_ok ns i (q k))) && (not (b k) ⇒ smaller i (q k))
-
-  pub inconsistent_fails : is_consistent n ≡ false → node_passes ns i n ≡ false
-  inconsistent_fails c = asks c refl refl
-
-  pub parentless_passes : is_consistent n ≡ true → parent_in n ≡ Parent.None → node_passes ns i n ≡ true
-  unfolding parent_ok
-  parentless_passes c q = go (cases n.present)
-    where
-      go : (n.present ≡ true) ⊎ (n.present ≡ false) → node_passes ns i n ≡ true
-      go (inl b) = asks c b q
-      go (inr b) = asks c b q
-
-  -- a parent that is not smaller
-  pub late_fails : {p : ℕ} → is_consistent n ≡ true → parent_in n ≡ Parent.Of p → i ≤ p → node_passes ns i n ≡ false
-  late_fails {p} c q l = go (cases n.present)
-    where
-      go : (n.present ≡ true) ⊎ (n.present ≡ false) → node_passes ns i n ≡ false
-      go (inl b) = asks c b q ∙ rw (parent-late ns {i = i} {p = p} refl l)
-      go (inr b) = asks c b q ∙ le-ltb p i l
-
--- a smaller parent below the count: asked of a present node is that it is present
-pub early-asks :
-    (count : ℕ) (xs : List Node) (i : ℕ) (n : Node) {p : ℕ} {b : Bool} → is_consistent n ≡ true → parent_in n ≡ Parent.Of p → p < i → p < count
-    → n.present && not (get_or xs p blank_node).present ≡ b → node_passes (take count xs) i n ≡ not b
-early-asks count xs i n {p} {b} c q l m h = go (cases n.present) (cases (get_or xs p blank_node).present)
+-- its two points ask one thing of its parent
+pub node_asks : (ns : List Node) (i : ℕ) (n : Node) → node_passes ns i n ≡ is_consistent n && parent_passes ns i n.present (parent_in n)
+unfolding node_ok absent_ok parent_ok
+node_asks ns i n = go (is_consistent n) n.present (parent_in n)
   where
-    ns : List Node
-    ns = take count xs
+    go : (c b : Bool) (q : Parent) → (c && (b ⇒ parent_ok ns i q)) && (not b ⇒ smaller i q) ≡ c && parent_passes ns i b q
+    go false b q = refl
+    go true true Parent.None = refl
+    go true false Parent.None = refl
+    go true true (Parent.Of p) = and-true (ltb p i && present ns p)
+    go true false (Parent.Of p) = sym (and-true (ltb p i))
 
-    go : (n.present ≡ true) ⊎ (n.present ≡ false) → ((get_or xs p blank_node).present ≡ true) ⊎ ((get_or xs p blank_node).present ≡ false) → node_passes ns i n ≡ not b
-    go (inl a) (inl d) = asks ns i n c a q ∙ rw (← h, a, d, parent-early count xs {i = i} {p = p} refl l m d)
-    go (inl a) (inr d) = asks ns i n c a q ∙ rw (← h, a, d, parent-early count xs {i = i} {p = p} refl l m d)
-    go (inr a) d = asks ns i n c a q ∙ rw (← h, a, lt-ltb p i l)
+-- ---- a loop over the entries with their places: what is left answers as the whole does
+
+module _ {A : Type 0} (f : ℕ → A → Bool) (xs : List A) (i : ℕ) where
+  pub all_at_next : (d : A) → i < length xs → f i (get_or xs i d) ≡ true → all_at f (i + 1) (drop (i + 1) xs) ≡ all_at f i (drop i xs)
+  unfolding all_at
+  all_at_next d l t = rw (rest-next d i xs l, add-one i, all_at, t)
+
+  pub all_at_hit : (d : A) → i < length xs → f i (get_or xs i d) ≡ false → all_at f i (drop i xs) ≡ false
+  unfolding all_at
+  all_at_hit d l t = rw (rest-next d i xs l, all_at, t)
+
+  pub all_at_end : length xs ≤ i → all_at f i (drop i xs) ≡ true
+  unfolding all_at
+  all_at_end l = rw (rest-done i xs l, all_at)

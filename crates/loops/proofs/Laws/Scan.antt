@@ -1,15 +1,8 @@
 -- What is left of a list: one more entry, and none; a count that stops at a size.
-use Rattle.model.proofs.Logic.{List, [], ◌+◌, ◌<◌, ◌∙◌, ◌∷◌, ◌≡◌, ◌≤◌, add-one, ap, arith, dec_lt, drop, drop-cons, drop_of_length-le, get_or, length, length-take, length-take-le, min-le_left, slice, slice-cons, sym, take, take_all, ℕ}
+use Rattle.model.proofs.Logic.{List, [], ◌+◌, ◌<◌, ◌∙◌, ◌∷◌, ◌≡◌, ◌≤◌, add-one, ap, arith, dec_lt, drop, drop-cons, drop_of_length-le, get_or, length, length-take-le, sym, take, take_all, ℕ}
 use Rattle.loops.specs.{Limits.AtMost}
 
 module _ {A : Type 0} where
-  -- from place i up to place n
-  pub part_next : (d : A) (i n : ℕ) (xs : List A) → i < n → n ≤ length xs → slice i n xs ≡ get_or xs i d ∷ slice (i + 1) n xs
-  part_next d i n xs l k = rw (add-one i) (slice-cons i n xs d l k)
-
-  pub part_done : (i n : ℕ) (xs : List A) → n ≤ i → slice i n xs ≡ []
-  part_done i n xs l = drop_of_length-le (take n xs) {i = i} (rw (length-take n xs) (omega (arith, min-le_left n (length xs))))
-
   -- from place i on
   pub rest-next : (d : A) (i : ℕ) (xs : List A) → i < length xs → drop i xs ≡ get_or xs i d ∷ drop (i + 1) xs
   rest-next d i xs l = rw (add-one i) (drop-cons xs i d l)
@@ -28,19 +21,3 @@ module _ {A : Type 0} where
   -- so that is how many it takes
   pub length_most : (count n end : ℕ) (xs : List A) → length xs ≡ n → AtMost count n end → length (take count xs) ≡ end
   length_most count n end xs e m = ap length (sym (take-most count n end xs e m)) ∙ length-take-le end xs (omega (arith, m.within))
-
-  -- and leaves as much
-  pub drop-most : (count n end : ℕ) (xs : List A) → length xs ≡ n → AtMost count n end → drop end xs ≡ drop count xs
-  drop-most count n end xs e m = go (dec_lt end count)
-    where
-      go : Dec (end < count) → drop end xs ≡ drop count xs
-      go (yes l) = drop_of_length-le xs {i = end} (omega (arith, m.whole l)) ∙ sym (drop_of_length-le xs {i = count} (omega (arith, m.whole l)))
-      go (no l) = let f : end ≡ count = omega (arith, m.below) in rw f
-
--- what is below the count and the size is below the count that stops there
-pub below-most : (count n end k : ℕ) → AtMost count n end → k < count → k < n → k < end
-below-most count n end k m a b = go (dec_lt end count)
-  where
-    go : Dec (end < count) → k < end
-    go (yes l) = omega (arith, m.whole l)
-    go (no l) = omega arith

@@ -45,12 +45,10 @@ module _ {A : Type 0} where
   padded-take n c d xs e l h = rw (length-take-le c xs (omega arith), ← h) (take-append-drop c xs)
 
   pub blank_rest : (same : A → Bool) (d : A) → ((x : A) → same x ≡ true → x ≡ d) → (xs : List A) → all same xs ≡ true → xs ≡ replicate (length xs) d
-  unfolding all
   blank_rest same d f [] h = refl
   blank_rest same d f (x ∷ xs) h = let p : x ≡ d = f x (and_l (same x) (all same xs) h) in let q : xs ≡ replicate (length xs) d = blank_rest same d f xs (and_r (same x) (all same xs) h) in λ i. p i ∷ q i
 
   pub all_replicate : (same : A → Bool) (d : A) → same d ≡ true → (n : ℕ) → all same (replicate n d) ≡ true
-  unfolding all
   all_replicate same d h zero = refl
   all_replicate same d h (suc n) = and_i (same d) (all same (replicate n d)) h (all_replicate same d h n)
 

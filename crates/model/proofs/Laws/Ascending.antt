@@ -52,7 +52,6 @@ places-ascend p k (x ∷ xs) = go (p x) (places-ascend p (suc k) xs)
     go false h = ascending_lower k (suc k) (places p (suc k) xs) (omega arith) h
 
 pub ascending_keep : (p : ℕ → Bool) (i : ℕ) (xs : List ℕ) → Ascending i xs → Ascending i (keep p xs)
-unfolding keep
 ascending_keep p i [] h = tt
 ascending_keep p i (x ∷ xs) h = go (p x) (ascending_keep p (suc x) xs h.1)
   where

@@ -26,7 +26,7 @@ module _ {A : Type 0} (p : A → Bool) where
   Found k xs = (i : ℕ) × (x : A) × (find_at p k xs ≡ some (k + i, x)) × First (λ y. p y ≡ true) xs i x
 
   found_from : (k : ℕ) (xs : List A) → any p xs ≡ true → Found k xs
-  unfolding find_at any
+  unfolding find_at
   found_from k [] h = clash true refl (sym h)
   found_from k (x ∷ xs) h = ⊎_elim here (λ e. later e (found_from (suc k) xs (rw e at h))) (cases (p x))
     where
@@ -43,7 +43,7 @@ module _ {A : Type 0} (p : A → Bool) where
   found_first xs h = let (i, x, e, f) = found_from 0 xs h in (i, x, rw (zero-add i) at e, f)
 
   pub found_none : (k : ℕ) (xs : List A) → any p xs ≡ false → find_at p k xs ≡ none
-  unfolding find_at any
+  unfolding find_at
   found_none k [] h = refl
   found_none k (x ∷ xs) h = let e = or_f_l (p x) (any p xs) h in rw e (found_none (suc k) xs (rw e at h))
 

@@ -23,7 +23,7 @@ pub live-compact : (ls : List Link) (id : ℕ) → live_links_of (keep is_live l
 live-compact ls id = keep-keep (is_live_link_of id) is_live ls (λ l h. (live-link_of id l h).0)
 
 pub live-dead : (ls : List Link) (id j : ℕ) → (id ≡ j → ⊥) → live_links_of (map (dead_for j) ls) id ≡ live_links_of ls id
-unfolding keep is_live_link_of
+unfolding is_live_link_of
 live-dead [] id j d = refl
 live-dead (l ∷ ls) id j d = go l.live (eqb (consumer_in l) id) refl (live-dead ls id j d)
   where
@@ -64,7 +64,7 @@ committed-idle T id k h = ap (map binding_in) (live-idle T id k h)
 
 module _ (ns : List Node) (id : ℕ) where
   fresh-mine : (bs : List Binding) → live_links_of (map (begun_link ns id) bs) id ≡ map (begun_link ns id) bs
-  unfolding keep is_live_link_of
+  unfolding is_live_link_of
   fresh-mine [] = refl
   fresh-mine (b ∷ bs) = rw (eq-eqb id id refl) (ap (λ (ls : List Link). begun_link ns id b ∷ ls) (fresh-mine bs))
 

@@ -1,70 +1,14 @@
--- A row's explanation, test by test and part by part; and where something is named, the test applies.
-use Rattle.model.proofs.Logic.{Bool, List, [], ◌&&◌, ◌++◌, ◌||◌, ◌∙◌, ◌∷◌, ◌≡◌, ap, arith, cond, false, length, not, or-false, refl, suc, sym, true, ℕ, ⊎_elim}
-use Rattle.model.specs.{Answers.checked, Explanation.Reason, Explanation.child_named, Explanation.clash_from, Explanation.clash_named, Explanation.clash_of, Explanation.explain, Explanation.is_witness, Explanation.link_at, Explanation.link_named, Explanation.named, Explanation.or_next, Explanation.refusal_for, Explanation.repeat_at, Explanation.repeat_named, Explanation.witness, Interface.distinct, Interface.taken, Lists.any, Lists.find_at, Records.is_child_of, Records.owner_in, Records.same_port, Refusals.Tests, Refusals.first, Resolution.look_up, Resolution.offers, Resolution.resolve, Tables.Tables, Tables.present, Tables.providing, declared.Answer.Answer, declared.Error.Error, declared.Port.Port, declared.Resolution.Resolution, declared.explanation.Explanation.Explanation, declared.explanation.ListKind.ListKind, declared.explanation.Refusal.Refusal, declared.explanation.Witness.Witness, declared.records.Declaration.Declaration, declared.records.Link.Link, declared.records.Node.Node}
-use Rattle.model.proofs.{Laws.Booleans.cases, Laws.Facts.same_port_lem, Laws.Refusals.Passed}
+-- A row's explanation at a test that applies; and where something is named, the test applies.
+use Rattle.std.specs.Prelude.{Err}
+use Rattle.model.proofs.Logic.{Bool, List, [], ◌&&◌, ◌++◌, ◌||◌, ◌∙◌, ◌∷◌, ◌≡◌, ap, cond, false, length, not, or-false, refl, suc, sym, true, ℕ, ⊎_elim}
+use Rattle.model.specs.{Explanation.child_named, Explanation.clash_from, Explanation.clash_named, Explanation.clash_of, Explanation.explain, Explanation.is_witness, Explanation.link_at, Explanation.link_named, Explanation.or_next, Explanation.repeat_at, Explanation.repeat_named, Explanation.witness, Interface.distinct, Interface.taken, Lists.any, Lists.find_at, Records.is_child_of, Records.owner_in, Records.same_port, Resolution.look_up, Resolution.offers, Resolution.resolve, Tables.Tables, Tables.present, Tables.providing, declared.Port.Port, declared.Resolution.Resolution, declared.explanation.ListKind.ListKind, declared.explanation.Refusal.Refusal, declared.explanation.Witness.Witness, declared.records.Declaration.Declaration, declared.records.Link.Link, declared.records.Node.Node}
+use Rattle.model.proofs.{Laws.Booleans.cases, Laws.Facts.same_port_lem}
 
--- ---- test by test
+-- ---- a test that applies
 
-pub explain-skip : (b : Bool) (r : Refusal) (ts : List (Bool × Refusal)) → b ≡ false → explain ((b, r) ∷ ts) ≡ explain ts
-unfolding explain
-explain-skip b r ts h = rw h
-
-pub explain-stop : (b : Bool) (r : Refusal) (ts : List (Bool × Refusal)) → b ≡ true → explain ((b, r) ∷ ts) ≡ Explanation.Refused r
+pub explain-stop : (b : Bool) (r : Refusal) (ts : List (Bool × Refusal)) → b ≡ true → explain ((b, r) ∷ ts) ≡ Err r
 unfolding explain
 explain-stop b r ts h = rw h
-
--- ---- part by part
-
--- the first part's refusal, else what the second explains
-abbrev pub and_then : Explanation → Explanation → Explanation
-and_then Explanation.Accepted x = x
-and_then (Explanation.Refused r) x = Explanation.Refused r
-
-pub named-append : (ts us : Tests) (rs ws : List Reason) → length ts ≡ length rs → explain (named (ts ++ us) (rs ++ ws)) ≡ and_then (explain (named ts rs)) (explain (named us ws))
-unfolding explain
-named-append [] us [] ws h = refl
-named-append [] us (r ∷ rs) ws h = absurd (omega arith)
-named-append (t ∷ ts) us [] ws h = absurd (omega arith)
-named-append (t ∷ ts) us (r ∷ rs) ws h = ⊎_elim (λ e. rw e) (λ e. rw e (named-append ts us rs ws (omega arith))) (cases t.0)
-
-pub explain-passed : (ts : Tests) (rs : List Reason) → length ts ≡ length rs → explain (named ts rs) ≡ Explanation.Accepted → Passed ts
-unfolding explain
-explain-passed [] rs h e = tt
-explain-passed (t ∷ ts) [] h e = absurd (omega arith)
-explain-passed (t ∷ ts) (r ∷ rs) h e = ⊎_elim stops (λ x. (x, explain-passed ts rs (omega arith) (rw x at e))) (cases t.0)
-  where
-    stops : t.0 ≡ true → Passed (t ∷ ts)
-    stops x = let z : ◌≡◌ {A = ℕ} 0 1 = cc (rw x at e) in absurd (omega arith)
-
-pub passed_explain : (ts : Tests) (rs : List Reason) → Passed ts → explain (named ts rs) ≡ Explanation.Accepted
-unfolding explain
-passed_explain [] rs p = refl
-passed_explain (t ∷ ts) [] p = refl
-passed_explain (t ∷ ts) (r ∷ rs) p = rw p.0 (passed_explain ts rs p.1)
-
--- ---- a part that is answered by itself
-
--- by what f says of the refusal answered
-abbrev pub answered : (Error → Refusal) → Answer → Explanation
-answered f Answer.Done = Explanation.Accepted
-answered f (Answer.Refused e) = Explanation.Refused (f e)
-
--- f says of each test's refusal what the reasons say
-abbrev pub Agrees : (Error → Refusal) → Tests → List Reason → Type 0
-Agrees f [] [] = Unit {0}
-Agrees f [] (r ∷ rs) = ⊥
-Agrees f (t ∷ ts) [] = ⊥
-Agrees f (t ∷ ts) (r ∷ rs) = (f t.1 ≡ refusal_for t.1 r) × Agrees f ts rs
-
-pub checked-explains : (f : Error → Refusal) (ts : Tests) (rs : List Reason) → Agrees f ts rs → (a : Answer) → a ≡ checked ts → explain (named ts rs) ≡ answered f a
-unfolding explain first
-checked-explains f [] [] g a h = rw h
-checked-explains f [] (r ∷ rs) g a h = absurd g
-checked-explains f (t ∷ ts) [] g a h = absurd g
-checked-explains f (t ∷ ts) (r ∷ rs) g a h = ⊎_elim stops (λ e. rw e (checked-explains f ts rs g.1 a (rw e at h))) (cases t.0)
-  where
-    stops : t.0 ≡ true → explain (named (t ∷ ts) (r ∷ rs)) ≡ answered f a
-    stops e = let y : a ≡ Answer.Refused t.1 = rw e at h in rw (e, y) (ap Explanation.Refused (sym g.0))
 
 -- ---- something is named where the test applies
 
@@ -80,7 +24,7 @@ either_named (Witness.Number m) w = refl
 
 -- by an entry's place, if that names something
 found : {A : Type 0} (f : ℕ → A → Witness) → ((i : ℕ) (x : A) → is_witness (f i x) ≡ true) → (p : A → Bool) (i : ℕ) (xs : List A) → any p xs ≡ is_witness (witness f (find_at p i xs))
-unfolding any find_at
+unfolding find_at
 found f g p i [] = refl
 found f g p i (x ∷ xs) = ⊎_elim (λ e. rw e (sym (g i x))) (λ e. rw e (found f g p (suc i) xs)) (cases (p x))
 
@@ -92,7 +36,7 @@ child_found id ns = found (λ i n. Witness.Child i) (λ i n. refl) (is_child_of 
 
 -- whatever tells who is present and who is Active
 looked_found : (here active : ℕ → Bool) (p : Port) (ds : List Declaration) → any (offers here p) ds ≡ is_witness (clash_of p (look_up here active ds p))
-unfolding any look_up
+unfolding look_up
 looked_found here active p [] = refl
 looked_found here active p (d ∷ ds) = ⊎_elim (λ e. rw e (owner (active (owner_in d)))) (λ e. rw e (looked_found here active p ds)) (cases (offers here p d))
   where
@@ -114,18 +58,15 @@ abbrev was_read : List Port → Port → Bool
 was_read es p = any (same_port p) es
 
 none_read : (ps : List Port) → any (was_read []) ps ≡ false
-unfolding any
 none_read [] = refl
 none_read (p ∷ ps) = none_read ps
 
 any_append : {A : Type 0} (p : A → Bool) (xs ys : List A) → any p (xs ++ ys) ≡ any p xs || any p ys
-unfolding any
 any_append p [] ys = refl
 any_append p (x ∷ xs) ys = ⊎_elim (λ e. rw e) (λ e. rw e (any_append p xs ys)) (cases (p x))
 
 -- one more is read
 one_more_read : (es : List Port) (p : Port) (qs : List Port) → any (was_read (es ++ (p ∷ []))) qs ≡ any (was_read es) qs || any (same_port p) qs
-unfolding any
 one_more_read es p [] = refl
 one_more_read es p (q ∷ qs) = rw (any_append (same_port q) es (p ∷ []), same_sym q p, one_more_read es p qs) (go (was_read es q) (same_port p q) (any (was_read es) qs))
   where
@@ -137,7 +78,7 @@ one_more_read es p (q ∷ qs) = rw (any_append (same_port q) es (p ∷ []), same
 
 -- the scan names something exactly if a port repeats one that was read or a later one, or has an owner
 clash_from_found : (s : ListKind) (f : Port → Resolution) (es ps : List Port) → any (was_read es) ps || not (distinct ps) || any (λ p. is_witness (clash_of p (f p))) ps ≡ is_witness (clash_from s f es ps)
-unfolding clash_from any distinct
+unfolding clash_from distinct
 clash_from_found s f es [] = refl
 clash_from_found s f es (p ∷ ps) =
     let read = found (repeat_at s (length es)) (λ i q. refl) (same_port p) 0 es in
@@ -158,11 +99,9 @@ clash_from_found s f es (p ∷ ps) =
 
 -- from the first port
 clash_start : (s : ListKind) (f : Port → Resolution) (ps : List Port) → not (distinct ps) || any (λ p. is_witness (clash_of p (f p))) ps ≡ is_witness (clash_from s f [] ps)
-unfolding any
 clash_start s f ps = ap (λ (b : Bool). b || not (distinct ps) || any (λ p. is_witness (clash_of p (f p))) ps) (sym (none_read ps)) ∙ clash_from_found s f [] ps
 
 pub repeat_found : (ds : List Port) → not (distinct ds) ≡ is_witness (repeat_named ds)
-unfolding any
 repeat_found ds = rw (← clash_start ListKind.Dependencies (λ p. Resolution.NoOwner) ds, none_read ds) (sym (or-false (not (distinct ds))))
 
 -- of the provisions alone

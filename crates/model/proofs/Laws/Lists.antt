@@ -1,5 +1,5 @@
 -- What the tests on lists say, by membership and by place.
-use Rattle.model.proofs.Logic.{Bool, List, List-as-Memᴰ, List·Memᴰ·cases-cons, List·Memᴰ·head, List·Memᴰ·not-nil, List·Memᴰ·tail, Option, [], ◌++◌, ◌+◌, ◌<◌, ◌||◌, ◌∷◌, ◌≡◌, ◌≤◌, ◌⊎◌, add-zero, ap, arith, cond, false, get_or, length, map, none, refl, set, some, suc, sym, true, true≢false, zero, ℕ, ⊎_elim}
+use Rattle.model.proofs.Logic.{Bool, List, List-as-Memᴰ, List·Memᴰ·cases-cons, List·Memᴰ·head, List·Memᴰ·not-nil, List·Memᴰ·tail, Option, [], ◌++◌, ◌+◌, ◌<◌, ◌||◌, ◌∷◌, ◌≡◌, ◌≤◌, add-zero, ap, arith, cond, false, get_or, length, map, none, refl, set, some, suc, sym, true, true≢false, zero, ℕ, ⊎_elim}
 use Rattle.model.proofs.{Laws.Booleans.and_i, Laws.Booleans.and_l, Laws.Booleans.and_r, Laws.Booleans.clash, Laws.Booleans.or_f_l, Laws.Booleans.or_f_r}
 use Rattle.model.specs.{Lists.all, Lists.all_at, Lists.any, Lists.find, Lists.is_none, Lists.keep, Lists.onward, Points.Among, Points.At}
 
@@ -7,17 +7,14 @@ use Rattle.model.specs.{Lists.all, Lists.all_at, Lists.any, Lists.find, Lists.is
 
 module _ {A : Type 0} where
   pub all_in : (p : A → Bool) {x : A} {xs : List A} → List-as-Memᴰ x xs → all p xs ≡ true → p x ≡ true
-  unfolding all
   all_in p (List·Memᴰ·head {x = y} {xs = ys} e) h = rw e (and_l (p y) (all p ys) h)
   all_in p (List·Memᴰ·tail {x = y} {xs = ys} m) h = all_in p m (and_r (p y) (all p ys) h)
 
   pub in_all : (p : A → Bool) (xs : List A) → ((x : A) → List-as-Memᴰ x xs → p x ≡ true) → all p xs ≡ true
-  unfolding all
   in_all p [] f = refl
   in_all p (x ∷ xs) f = and_i (p x) (all p xs) (f x (List·Memᴰ·head refl)) (in_all p xs (λ y m. f y (List·Memᴰ·tail m)))
 
   pub any-in : (p : A → Bool) (xs : List A) → any p xs ≡ true → (x : A) × List-as-Memᴰ x xs × (p x ≡ true)
-  unfolding any
   any-in p [] h = absurd (true≢false (sym h))
   any-in p (x ∷ xs) h = go (p x) refl (λ e. any-in p xs e)
     where
@@ -26,7 +23,6 @@ module _ {A : Type 0} where
       go false e f = let (y, m, q) = f (rw e at h) in (y, List·Memᴰ·tail m, q)
 
   pub in_any : (p : A → Bool) {x : A} {xs : List A} → List-as-Memᴰ x xs → p x ≡ true → any p xs ≡ true
-  unfolding any
   in_any p (List·Memᴰ·head {x = y} {xs = ys} e) h = rw (← e, h)
   in_any p (List·Memᴰ·tail {x = y} {xs = ys} m) h = rw (in_any p m h) (or_t (p y))
     where
@@ -35,12 +31,10 @@ module _ {A : Type 0} where
       or_t false = refl
 
   pub none_in : (p : A → Bool) {x : A} {xs : List A} → List-as-Memᴰ x xs → any p xs ≡ false → p x ≡ false
-  unfolding any
   none_in p (List·Memᴰ·head {x = y} {xs = ys} e) h = rw e (or_f_l (p y) (any p ys) h)
   none_in p (List·Memᴰ·tail {x = y} {xs = ys} m) h = none_in p m (or_f_r (p y) (any p ys) h)
 
   pub in_keep : (p : A → Bool) (xs : List A) {x : A} → List-as-Memᴰ x (keep p xs) → List-as-Memᴰ x xs × (p x ≡ true)
-  unfolding keep
   in_keep p [] m = absurd (List·Memᴰ·not-nil m)
   in_keep p (y ∷ ys) {x} m = go (p y) refl (λ n. in_keep p ys n) m
     where
@@ -50,7 +44,6 @@ module _ {A : Type 0} where
       go false q f n = let (k, r) = f n in (List·Memᴰ·tail k, r)
 
   pub keep-in : (p : A → Bool) {x : A} {xs : List A} → List-as-Memᴰ x xs → p x ≡ true → List-as-Memᴰ x (keep p xs)
-  unfolding keep
   keep-in p {x = z} (List·Memᴰ·head {x = y} {xs = ys} e) h = rw (← e, h) (List·Memᴰ·head refl)
   keep-in p {x = z} (List·Memᴰ·tail {x = y} {xs = ys} m) h = go (p y) (keep-in p m h)
     where
@@ -59,7 +52,6 @@ module _ {A : Type 0} where
       go false n = n
 
   pub length-keep : (p : A → Bool) (xs : List A) → length (keep p xs) ≤ length xs
-  unfolding keep
   length-keep p [] = omega arith
   length-keep p (x ∷ xs) = go (p x) (length-keep p xs)
     where
@@ -69,7 +61,6 @@ module _ {A : Type 0} where
 
   -- one that does not pass is not kept
   pub keep-drops : (p : A → Bool) {x : A} {xs : List A} → List-as-Memᴰ x xs → p x ≡ false → length (keep p xs) < length xs
-  unfolding keep
   keep-drops p (List·Memᴰ·head {x = y} {xs = ys} e) h = rw (← e, h) (omega (arith, length-keep p ys))
   keep-drops p (List·Memᴰ·tail {x = y} {xs = ys} m) h = go (p y) (keep-drops p m h)
     where
@@ -79,7 +70,6 @@ module _ {A : Type 0} where
 
   -- an entry passes no more
   pub keep-less : (p : A → Bool) (d : A) (xs : List A) (k : ℕ) (y : A) → k < length xs → p (get_or xs k d) ≡ true → p y ≡ false → length (keep p xs) ≡ suc (length (keep p (set xs k y)))
-  unfolding keep
   keep-less p d [] k y l a b = absurd (omega arith)
   keep-less p d (x ∷ xs) zero y l a b = rw (a, b)
   keep-less p d (x ∷ xs) (suc k) y l a b = go (p x) (keep p xs) (keep p (set xs k y)) (keep-less p d xs k y (omega arith) a b)
@@ -126,12 +116,10 @@ map_same (x ∷ xs) e = λ i. e x (List·Memᴰ·head refl) i ∷ map_same xs (�
 -- a test of what f gives: of the entries, or of the list that f makes of them
 module _ {A B : Type 0} (f : A → B) (p : B → Bool) where
   pub any-map : (xs : List A) → any (λ x. p (f x)) xs ≡ any p (map f xs)
-  unfolding any
   any-map [] = refl
   any-map (x ∷ xs) = ap (λ (b : Bool). p (f x) || b) (any-map xs)
 
   pub keep-map : (xs : List A) → map f (keep (λ x. p (f x)) xs) ≡ keep p (map f xs)
-  unfolding keep
   keep-map [] = refl
   keep-map (x ∷ xs) = go (p (f x)) (keep-map xs)
     where
@@ -188,7 +176,7 @@ module _ {A : Type 0} where
 
 module _ {A : Type 0} (f : A → A → Bool) where
   pub onward-at : (xs : List A) → onward f xs ≡ true → (i j : ℕ) (d e : A) → i ≤ j → j < length xs → f (get_or xs i d) (get_or xs j e) ≡ true
-  unfolding onward all
+  unfolding onward
   onward-at [] h i j d e p l = absurd (omega arith)
   onward-at (x ∷ xs) h zero zero d e p l = and_l (f x x) (all (f x) xs) (and_l (all (f x) (x ∷ xs)) (onward f xs) h)
   onward-at (x ∷ xs) h zero (suc j) d e p l = all_in (f x) (place_in xs j e (omega arith)) (and_r (f x x) (all (f x) xs) (and_l (all (f x) (x ∷ xs)) (onward f xs) h))
@@ -211,7 +199,6 @@ is_some (some a) h = (a, refl)
 
 module _ {A : Type 0} where
   pub keep_append : (p : A → Bool) (xs ys : List A) → keep p (xs ++ ys) ≡ keep p xs ++ keep p ys
-  unfolding keep
   keep_append p [] ys = refl
   keep_append p (x ∷ xs) ys = go (p x) (keep_append p xs ys)
     where
@@ -220,13 +207,11 @@ module _ {A : Type 0} where
       go false e = e
 
   pub keep-none : (p : A → Bool) (xs : List A) → ((x : A) → List-as-Memᴰ x xs → p x ≡ false) → keep p xs ≡ []
-  unfolding keep
   keep-none p [] f = refl
   keep-none p (x ∷ xs) f = rw (f x (List·Memᴰ·head refl)) (keep-none p xs (λ y m. f y (List·Memᴰ·tail m)))
 
   -- a second keeping that drops nothing of the first
   pub keep-keep : (p q : A → Bool) (xs : List A) → ((x : A) → p x ≡ true → q x ≡ true) → keep p (keep q xs) ≡ keep p xs
-  unfolding keep
   keep-keep p q [] f = refl
   keep-keep p q (x ∷ xs) f = go (q x) refl (p x) refl (keep-keep p q xs f)
     where

@@ -43,7 +43,7 @@ ordered-map f g (l ∷ ls) h =
 
 -- some of the links
 pub ordered-keep : (p : Link → Bool) (ls : List Link) → ordered ls ≡ true → ordered (keep p ls) ≡ true
-unfolding onward keep all
+unfolding onward
 ordered-keep p [] h = refl
 ordered-keep p (l ∷ ls) h = go (p l) (ordered-keep p ls (and_r (all (apart l) (l ∷ ls)) (ordered ls) h))
   where

@@ -1,6 +1,7 @@
 -- Tests in order: those that all passed, and the first that applies.
+use Rattle.std.specs.Prelude.{Err, Ok}
 use Rattle.model.proofs.Logic.{Bool, Option, [], ◌++◌, ◌∙◌, ◌↔◌, ◌∷◌, ◌≡◌, ◌⊎◌, ap, arith, eq-eqb, eqb, false, inl, inr, none, not, refl, some, sym, true, ℕ, ⊎_elim}
-use Rattle.model.specs.{Answers.checked, Commands.Command, Commands.Step, Commands.report, Commands.result, Commands.settle, Commands.step, Commands.tests, Lists.all, Refusals.Reply, Refusals.Tests, Refusals.accepted, Refusals.first, Refusals.number, Sizes.Sizes, Tables.Tables, declared.Answer.Answer, declared.Error.Error}
+use Rattle.model.specs.{Answers.checked, Commands.Command, Commands.Step, Commands.report, Commands.result, Commands.settle, Commands.step, Commands.tests, Lists.all, Refusals.Reply, Refusals.Tests, Refusals.accepted, Refusals.first, Refusals.number, Sizes.Sizes, Tables.Tables, Answers.Answer, declared.Error.Error}
 use Rattle.model.proofs.{Laws.Booleans.and_l, Laws.Booleans.and_r, Laws.Booleans.clash}
 
 -- no test of a row applies, by place
@@ -33,7 +34,7 @@ stop b e ts h = rw h
 -- ---- a row whose first tests are answered by themselves
 
 -- a refusal among them is the row's
-pub refused-among : (ts us : Tests) (a : Answer) (x : Error) → a ≡ checked ts → a ≡ Answer.Refused x → first (ts ++ us) ≡ some x
+pub refused-among : (ts us : Tests) (a : Answer) (x : Error) → a ≡ checked ts → a ≡ Err x → first (ts ++ us) ≡ some x
 unfolding first
 refused-among [] us a x h r = let z : ◌≡◌ {A = ℕ} 0 1 = cc in absurd (omega arith)
 refused-among (t ∷ ts) us a x h r = go t.0 refl (λ q. refused-among ts us a x q r)
@@ -43,7 +44,7 @@ refused-among (t ∷ ts) us a x h r = go t.0 refl (λ q. refused-among ts us a x
     go false e f = rw e (f (rw e at h))
 
 -- done: none of them applies
-pub done-passed : (ts : Tests) (a : Answer) → a ≡ checked ts → a ≡ Answer.Done → Passed ts
+pub done-passed : (ts : Tests) (a : Answer) → a ≡ checked ts → a ≡ Ok tt → Passed ts
 unfolding first
 done-passed [] a h d = tt
 done-passed (t ∷ ts) a h d = go t.0 refl (λ q. done-passed ts a q d)
@@ -77,7 +78,7 @@ step_keeps P S T c p f = step-cases (λ o. P o.tables) S T c (λ e h. p) f
 
 -- the refusal of the first test that applies is one of the row
 pub first-among : (ts : Tests) (e : Error) (f : Error → Bool) → all (λ (t : Bool × Error). f t.1) ts ≡ true → first ts ≡ some e → f e ≡ true
-unfolding all first
+unfolding first
 first-among [] e f h q = let z : ◌≡◌ {A = ℕ} 0 1 = cc in absurd (omega arith)
 first-among (t ∷ ts) e f h q = go t.0 refl (λ x. first-among ts e f (and_r (f t.1) _ h) x)
   where
@@ -91,7 +92,7 @@ without x ts = all (λ (t : Bool × Error). not (eqb (number t.1) (number x))) t
 
 -- a refusal that one test of a row alone gives: it applies, and none before it does
 pub refused-at : (ts : Tests) (b : Bool) (x : Error) (us : Tests) → without x ts ≡ true → without x us ≡ true → (first (ts ++ ((b, x) ∷ us)) ≡ some x) ↔ (Passed ts × (b ≡ true))
-unfolding all first
+unfolding first
 refused-at ts b x us no-earlier no-later = (at ts no-earlier, λ (p, h). passed_first ts ((b, x) ∷ us) p ∙ stop b x us h)
   where
     itself : (C : Type 0) → not (eqb (number x) (number x)) ≡ true → C

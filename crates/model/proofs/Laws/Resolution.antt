@@ -31,13 +31,12 @@ module _ (here active : ℕ → Bool) (p : Port) where
       go false e = (m, h, e)
 
   later : (d : Declaration) (ds : List Declaration) (r : Resolution) → offers here p d ≡ false → LookedUp here active ds p r → LookedUp here active (d ∷ ds) p r
-  unfolding any
   later d ds (Resolution.Provider o) e (m, w, a) = (List·Memᴰ·tail m, w, a)
   later d ds (Resolution.NotActive o) e (m, w, a) = (List·Memᴰ·tail m, w, a)
   later d ds Resolution.NoOwner e w = rw (e, w)
 
   pub looked_up_lem : (ds : List Declaration) → LookedUp here active ds p (look_up here active ds p)
-  unfolding look_up any
+  unfolding look_up
   looked_up_lem [] = refl
   looked_up_lem (d ∷ ds) = go (offers here p d) refl (looked_up_lem ds)
     where

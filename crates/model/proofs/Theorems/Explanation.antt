@@ -1,6 +1,7 @@
 -- The explanation of every command: it names the refusal that the command replies, the first test that applies, and a real witness.
+use Rattle.std.specs.Prelude.{Err, Ok}
 use Rattle.model.proofs.Logic.{Bool, List, Option, [], ◌&&◌, ◌||◌, ◌↔◌, ◌∙◌, ◌∷◌, ◌≡◌, ◌⊎◌, ap, arith, cond, eq-eqb, eqb, eqb-true, false, inl, inr, leb-true, ltb-false, ltb-true, map, none, not, refl, some, subst, suc, sym, true, ℕ, ⊎_elim}
-use Rattle.model.specs.{Commands.Command, Commands.tests, Explanation.Behind, Explanation.ChecksExplained, Explanation.ChildOf, Explanation.EveryRefusalExplained, Explanation.First, Explanation.InTheWay, Explanation.IsComponent, Explanation.NoneTaken, Explanation.Real, Explanation.RetiredNamed, Explanation.RowsTold, Explanation.Subject, Explanation.Suits, Explanation.UnchangedNamed, Explanation.Unmet, Explanation.child_named, Explanation.clash_from, Explanation.clash_named, Explanation.clash_of, Explanation.damaged, Explanation.explain, Explanation.explained, Explanation.explained_on, Explanation.is_witness, Explanation.lacking, Explanation.link_named, Explanation.long_list, Explanation.or_next, Explanation.parent_named, Explanation.repeat_named, Explanation.reply_by, Explanation.row, Explanation.subject, Insertion.check_insert, Insertion.parent_present, Insertion.parent_retired, Interface.distinct, Interface.listed, Interface.own, Interface.relies_on, Interface.taken, Interface.too_long, Kernels.Commanded, Kernels.asked, Kernels.commanded, Layouts.Layout, Layouts.sound_kernel, Layouts.tables_of, Lifecycle.check_iteration, Lifecycle.relies, Lists.any, Lists.find_at, Lists.is_none, Records.binding_of, Records.has_parent, Records.is_child_of, Records.parent_in, Records.port_in, Records.port_of, Records.provider_in, Refusals.Reply, Refusals.accepted, Refusals.first, Refusals.or_else, Resolution.Owns, Resolution.Says, Resolution.Target, Resolution.resolve, Resolution.target, Resolution.target_list, Sizes.Sizes, Soundness.sound, Tables.Tables, Tables.node_at, Tables.present, declared.Binding.Binding, declared.Error.Error, declared.Parent.Parent, declared.Port.Port, declared.PortList.PortList, declared.Resolution.Resolution, declared.Unresolved.Unresolved, declared.explanation.Explanation.Explanation, declared.explanation.ListKind.ListKind, declared.explanation.Refusal.Refusal, declared.explanation.Witness.Witness, declared.records.Link.Link, declared.records.Node.Node, Records.same_port}
+use Rattle.model.specs.{Commands.Command, Commands.tests, Explanation.Behind, Explanation.ChecksExplained, Explanation.ChildOf, Explanation.EveryRefusalExplained, Explanation.First, Explanation.InTheWay, Explanation.IsComponent, Explanation.NoneTaken, Explanation.Real, Explanation.RetiredNamed, Explanation.RowsTold, Explanation.Subject, Explanation.Suits, Explanation.UnchangedNamed, Explanation.Unmet, Explanation.child_named, Explanation.clash_from, Explanation.clash_named, Explanation.clash_of, Explanation.damaged, Explanation.explain, Explanation.explained, Explanation.explained_on, Explanation.is_witness, Explanation.lacking, Explanation.link_named, Explanation.long_list, Explanation.or_next, Explanation.parent_named, Explanation.repeat_named, Explanation.reply_by, Explanation.row, Explanation.subject, Insertion.check_insert, Insertion.parent_present, Insertion.parent_retired, Interface.distinct, Interface.listed, Interface.own, Interface.relies_on, Interface.taken, Interface.too_long, Kernels.Commanded, Kernels.asked, Kernels.commanded, Layouts.Layout, Layouts.sound_kernel, Layouts.tables_of, Lifecycle.check_iteration, Lifecycle.relies, Lists.any, Lists.find_at, Lists.is_none, Records.binding_of, Records.has_parent, Records.is_child_of, Records.parent_in, Records.port_in, Records.port_of, Records.provider_in, Refusals.Reply, Refusals.accepted, Refusals.first, Refusals.or_else, Resolution.Owns, Resolution.Says, Resolution.Target, Resolution.resolve, Resolution.target, Resolution.target_list, Sizes.Sizes, Soundness.sound, Tables.Tables, Tables.node_at, Tables.present, declared.Binding.Binding, declared.Error.Error, declared.Parent.Parent, declared.Port.Port, declared.PortList.PortList, declared.Resolution.Resolution, declared.Unresolved.Unresolved, Explanation.Explanation, declared.explanation.ListKind.ListKind, declared.explanation.Refusal.Refusal, declared.explanation.Witness.Witness, declared.records.Link.Link, declared.records.Node.Node, Records.same_port}
 use Rattle.model.proofs.{Laws.Booleans.and_i, Laws.Booleans.and_l, Laws.Booleans.and_r, Laws.Booleans.cases, Laws.Booleans.clash, Laws.Booleans.not_f, Laws.Booleans.or_f_l, Laws.Booleans.or_f_r, Laws.Clashes.Free, Laws.Clashes.Scanned, Laws.Clashes.first-as, Laws.Clashes.first_head, Laws.Clashes.first_tail, Laws.Clashes.found_first, Laws.Clashes.scan_stops, Laws.Explanation.clash_found, Laws.Explanation.offer_found, Laws.Explanation.repeat_found, Laws.Facts.port-same, Laws.Facts.same_port_lem, Laws.Lists.never, Laws.Refusals.passed, Laws.Refusals.report-accepts, Laws.Resolution.target_none, Theorems.Impact.Hit.is-none, Theorems.Kernels.asked-sound, Theorems.Kernels.asked-unsound, Theorems.Kernels.commanded-accepted, Theorems.Kernels.commanded-refused, Theorems.Kernels.commanded-unsound, Theorems.Layouts.tables-sound, Theorems.Resolution.Names, Theorems.Resolution.named-is, Theorems.Resolution.names_when, Theorems.Resolution.resolve-exactly, Theorems.Resolution.resolve-says, Theorems.Resolution.target-names}
 
 -- the rows explained are the rows of the commands
@@ -23,8 +24,8 @@ rows_told S T Command.compact_declarations = refl
 -- ---- the explanation and the reply
 
 abbrev refusal_of : Explanation → Option Error
-refusal_of Explanation.Accepted = none
-refusal_of (Explanation.Refused r) = some r.error
+refusal_of (Ok _) = none
+refusal_of (Err r) = some r.error
 
 -- the refusal of the first test that applies
 explain-first : (ts : List (Bool × Refusal)) → refusal_of (explain ts) ≡ first (map (λ (t : Bool × Refusal). (t.0, t.1.error)) ts)
@@ -57,7 +58,7 @@ module _ (R : Error → Witness → Type 0) (r : Refusal) where
   abbrev Told : List (Bool × Refusal) → Type 0
   Told ts = ((i : ℕ) × First Applies ts i (true, r)) × R r.error r.witness
 
-  told : (P : Type 0) (ts : List (Bool × Refusal)) → P → Backed R P ts → explain ts ≡ Explanation.Refused r → Told ts
+  told : (P : Type 0) (ts : List (Bool × Refusal)) → P → Backed R P ts → explain ts ≡ Err r → Told ts
   unfolding explain
   told P [] p b h = let z : ◌≡◌ {A = ℕ} 0 1 = cc in absurd (omega arith)
   told P (t ∷ ts) p b h = ⊎_elim here (λ e. later e (told (P × (t.0 ≡ false)) ts (p, e) b.1 (rw e at h))) (cases t.0)
@@ -222,7 +223,7 @@ module _ (S : Sizes) (T : Tables) where
 
   -- declare_provision's port is a list of one
   provided-backs : sound S T ≡ true → (id : ℕ) (p : Port) → taken T p ≡ true → BacksIn (Command.declare_provision id p) Error.Conflict (clash_of p (resolve T p))
-  unfolding clash_from find_at any distinct
+  unfolding clash_from find_at distinct
   provided-backs s id p h = go (resolve T p) (clash_backs S T s (subject (Command.declare_provision id p)) (rw h))
     where
       go :
@@ -235,7 +236,7 @@ module _ (S : Sizes) (T : Tables) where
 
   -- each row, test by test
   row-backed : sound S T ≡ true → (c : Command) → Backed (BacksIn c) (Unit {0}) (row S T c)
-  unfolding parent_present parent_retired distinct any
+  unfolding parent_present parent_retired distinct
   row-backed s (Command.insert q ds ps) =
       (λ g. long-backs q ds ps)
       also (λ g h. ((refl, leb-true _ _ h), (_, refl)))
@@ -283,33 +284,33 @@ module _ (S : Sizes) (T : Tables) where
 module _ (S : Sizes) (k : Layout) (c : Command) where
   -- what the command replies, by an explanation
   abbrev Replies : Explanation → Type 0
-  Replies Explanation.Accepted = accepted (commanded S k c).reply ≡ true
-  Replies (Explanation.Refused r) = (commanded S k c).reply ≡ Reply.refused r.error
+  Replies (Ok _) = accepted (commanded S k c).reply ≡ true
+  Replies (Err r) = (commanded S k c).reply ≡ Reply.refused r.error
 
   replies : Replies (explained_on S k c)
   replies = go (cases (sound_kernel S k))
     where
       tested : sound_kernel S k ≡ true → (x : Explanation) → refusal_of x ≡ first (tests S (tables_of k) c) → Replies x
-      tested h Explanation.Accepted e = ap (λ (o : Commanded). accepted o.reply) (commanded-accepted S k c h (passed _ (sym e))) ∙ report-accepts (tables_of k) c
-      tested h (Explanation.Refused r) e = ap (λ (o : Commanded). o.reply) (commanded-refused S k c r.error h (sym e))
+      tested h (Ok _) e = ap (λ (o : Commanded). accepted o.reply) (commanded-accepted S k c h (passed _ (sym e))) ∙ report-accepts (tables_of k) c
+      tested h (Err r) e = ap (λ (o : Commanded). o.reply) (commanded-refused S k c r.error h (sym e))
 
       go : (sound_kernel S k ≡ true) ⊎ (sound_kernel S k ≡ false) → Replies (explained_on S k c)
       go (inl h) = rw (asked-sound S k damaged (λ T. explained S T c) h) (tested h (explained S (tables_of k) c) (explained-first S (tables_of k) c))
       go (inr h) = rw (asked-unsound S k damaged (λ T. explained S T c) h) (ap (λ (o : Commanded). o.reply) (commanded-unsound S k c h))
 
-  accepted-is : (x : Explanation) → Replies x → accepted (commanded S k c).reply ≡ true → x ≡ Explanation.Accepted
-  accepted-is Explanation.Accepted e h = refl
-  accepted-is (Explanation.Refused r) e h = clash _ h (ap accepted e)
+  accepted-is : (x : Explanation) → Replies x → accepted (commanded S k c).reply ≡ true → x ≡ Ok tt
+  accepted-is (Ok _) e h = refl
+  accepted-is (Err r) e h = clash _ h (ap accepted e)
 
-  behind : sound_kernel S k ≡ true → (r : Refusal) → explained_on S k c ≡ Explanation.Refused r → Behind S (tables_of k) c r
+  behind : sound_kernel S k ≡ true → (r : Refusal) → explained_on S k c ≡ Err r → Behind S (tables_of k) c r
   unfolding explained
   behind h r e =
       let T = tables_of k in
-      let x : explained S T c ≡ Explanation.Refused r = sym (asked-sound S k damaged (λ T. explained S T c) h) ∙ e in
+      let x : explained S T c ≡ Err r = sym (asked-sound S k damaged (λ T. explained S T c) h) ∙ e in
       let (f, (w, v)) = told (Backs S T (subject c)) r (Unit {0}) (row S T c) tt (row-backed S T (tables-sound S k h) c) x in
       record { first = f; real = w; suits = v }
 
-  reason : sound_kernel S k ≡ true → (r : Refusal) (u : Unresolved) → explained_on S k c ≡ Explanation.Refused r → r.witness ≡ Witness.Dependency u → Says (tables_of k) u.port u.found
+  reason : sound_kernel S k ≡ true → (r : Refusal) (u : Unresolved) → explained_on S k c ≡ Err r → r.witness ≡ Witness.Dependency u → Says (tables_of k) u.port u.found
   reason h r u e w =
       let (id, i, unmet) = subst (Real S (tables_of k) (subject c)) w (behind h r e).real in
       subst (Says (tables_of k) u.port) unmet.looked_up (resolve-says S (tables_of k) (tables-sound S k h) u.port)
@@ -328,8 +329,8 @@ unfolding asked check_insert check_iteration
 checks-explained S k = record { insertion = λ q ds ps. go (sound_kernel S k) (Command.insert q ds ps); iteration = λ id. go (sound_kernel S k) (Command.finish id) }
   where
     by : (x : Explanation) → or_else (refusal_of x) Reply.done ≡ reply_by x
-    by Explanation.Accepted = refl
-    by (Explanation.Refused r) = refl
+    by (Ok _) = refl
+    by (Err r) = refl
 
     go : (b : Bool) (c : Command) → cond b (or_else (first (tests S (tables_of k) c)) Reply.done) (Reply.refused Error.Damaged) ≡ reply_by (cond b (explained S (tables_of k) c) damaged)
     go true c = rw (← explained-first S (tables_of k) c) (by (explained S (tables_of k) c))

@@ -1,6 +1,5 @@
 -- The iteration rule on tables.
 use Rattle.model.proofs.Logic.{Bool, List, List-as-Memᴰ, List·Memᴰ·head, List·Memᴰ·tail, Option, Option·map, [], ◌∙◌, ◌∷◌, ◌≡◌, ap, arith, cons≢nil, false, head-eq_of_cons-eq, map, nil≢cons, none, not, refl, some, sym, tail-eq_of_cons-eq, true, ℕ}
-use contract.Running.{tables}
 use Rattle.model.specs.{Commands.Command, Commands.Step, Commands.settle, Commands.step, Iteration.Rule, Iteration.loads, Iteration.runs, Lifecycle.check_iteration, Lifecycle.iteration_tests, Lifecycle.leave_if_changed_tests, Lifecycle.left, Lifecycle.phase_at, Lists.is_none, Lists.keep, Observers.phase, Records.binding_in, Records.consumer_in, Records.is_loading, Records.is_running, Records.port_in, Records.port_of, Records.provider_in, Records.provision, Records.with_phase, Refusals.Reply, Refusals.first, Refusals.or_else, Resolution.committed, Resolution.dependency_ports, Resolution.is_live_link_of, Resolution.target, Resolution.target_list, Sizes.Sizes, Soundness.sound, Tables.Tables, Tables.node_at, Tables.present, declared.Binding.Binding, declared.Error.Error, declared.Phase.Phase, declared.records.Link.Link}
 use Rattle.model.proofs.{Laws.Booleans.clash, Laws.Committed.live-link_of, Laws.Facts.LiveOk, Laws.Facts.Safe, Laws.Facts.facts, Laws.Lists.in_keep, Laws.Lists.in_map, Laws.Lists.never, Laws.Nodes.at_same, Laws.Nodes.present-lt, Laws.Phases.loading_running, Laws.Phases.running-installed, Laws.Refusals.skip, Laws.Resolution.Resolved, Laws.Resolution.Targeted, Laws.Resolution.bound-ports, Laws.Resolution.target-resolved, Laws.Resolution.targeted, Theorems.IterationInvariant.IterationInvariant}
 

@@ -80,7 +80,6 @@ reached-sound S cs = rw (reached-is S cs) (layout_sound S (run S cs) (run_sound 
 
 -- no row has a test that gives 10, so only the entry does
 undamaged : (S : Sizes) (T : Tables) (c : Command) → all (λ (t : Bool × Error). not (eqb (number t.1) (number Error.Damaged))) (tests S T c) ≡ true
-unfolding all
 undamaged S T (Command.insert q ds ps) = refl
 undamaged S T (Command.declare_provision id p) = refl
 undamaged S T (Command.release_provision id p) = refl

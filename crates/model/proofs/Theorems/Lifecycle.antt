@@ -1,6 +1,6 @@
 -- finish, leave, retire, begin_cleanup and remove keep soundness: one node is written anew.
 use Rattle.model.proofs.Logic.{◌≡◌, eq-eqb, eqb, false, not, refl, true, ℕ}
-use Rattle.model.specs.{Lifecycle.begin_cleanup_tests, Lifecycle.cleanup_begun, Lifecycle.finished, Lifecycle.iteration_tests, Lifecycle.leave_tests, Lifecycle.left, Lifecycle.relies, Lifecycle.remove_tests, Lifecycle.removed_from, Lifecycle.retire_tests, Lifecycle.retired_from, Observers.children, Records.is_inactive, Records.is_running, Records.is_unloading, Records.provider_in, Sizes.Sizes, Tables.Tables, Tables.node_at, Tables.present, declared.records.Node.Node}
+use Rattle.model.specs.{Lifecycle.begin_cleanup_tests, Lifecycle.cleanup_begun, Lifecycle.finished, Lifecycle.iteration_tests, Lifecycle.leave_tests, Lifecycle.left, Lifecycle.relies, Lifecycle.remove_tests, Lifecycle.removed_from, Lifecycle.retire_tests, Lifecycle.retired_from, Records.is_inactive, Records.is_running, Records.is_unloading, Records.provider_in, Sizes.Sizes, Tables.Tables, Tables.node_at, Tables.present, declared.records.Node.Node}
 use Rattle.model.proofs.{Laws.Booleans.and_i, Laws.Booleans.and_l, Laws.Booleans.and_r, Laws.Booleans.clash, Laws.Booleans.not_f, Laws.Facts.Sound, Laws.Lists.none_in, Laws.Nodes.parent-smaller, Laws.Phases.inactive-stays, Laws.Phases.loading_running, Laws.Phases.running-installed, Laws.Phases.running-stays, Laws.Phases.unloading_installed, Laws.Refusals.Passed, Laws.Update.calm, Laws.Update.sound-update, Theorems.UpdateNode.no_child}
 
 module _ (S : Sizes) (T : Tables) (id : ℕ) (k : Sound S T) where

@@ -179,7 +179,6 @@ stored-issued T k = record { owners = k.owners; ends = λ i l a. ends i l a (cas
 
 module _ {A : Type 0} (same : A → Bool) (blank : A) where
   past-blanks : ((x : A) → same x ≡ true → x ≡ blank) → (c : ℕ) (xs : List A) → all same (drop c xs) ≡ true → BlankPast blank c xs
-  unfolding all
   past-blanks f c [] h i x a l = absurd (omega (arith, a.0))
   past-blanks f zero (y ∷ ys) h zero x a l = sym a.1 ∙ f y (and_l (same y) _ h)
   past-blanks f zero (y ∷ ys) h (suc i) x a l = past-blanks f zero ys (and_r (same y) _ h) i x (omega (arith, a.0), a.1) (omega arith)
@@ -187,7 +186,6 @@ module _ {A : Type 0} (same : A → Bool) (blank : A) where
   past-blanks f (suc c) (y ∷ ys) h (suc i) x a l = past-blanks f c ys h i x (omega (arith, a.0), a.1) (omega arith)
 
   blanks_past : same blank ≡ true → (c : ℕ) (xs : List A) → BlankPast blank c xs → all same (drop c xs) ≡ true
-  unfolding all
   blanks_past e zero [] f = refl
   blanks_past e zero (y ∷ ys) f = and_i (same y) _ (rw (f 0 y (omega arith, refl) (omega arith)) e) (blanks_past e zero ys (λ i x a l. f (suc i) x (omega (arith, a.0), a.1) (omega arith)))
   blanks_past e (suc c) [] f = refl

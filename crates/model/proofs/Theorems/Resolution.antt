@@ -1,6 +1,7 @@
 -- On sound tables resolve answers just what holds: of its three answers one holds, and no other. What target names, and when.
+use Rattle.std.specs.Prelude.{Some}
 use Rattle.model.proofs.Logic.{Bool, List, List-as-Memᴰ, ◌↔◌, ◌∙◌, ◌≡◌, ◌⊎◌, ap, arith, cond, false, inl, inr, none, refl, subst, sym, true, ℕ}
-use Rattle.model.specs.{Iteration.target_of, Kernels.asked, Layouts.Layout, Layouts.sound_kernel, Layouts.tables_of, Lifecycle.phase_at, Points.Among, Points.At, Records.binding_in, Records.consumer_in, Records.dependency, Records.provider_in, Records.provision, Resolution.Owner, Resolution.Owns, Resolution.Provides, Resolution.Says, Resolution.Target, Resolution.bind_ports, Resolution.dependency_ports, Resolution.missing_of, Resolution.offers, Resolution.resolve, Resolution.target, Resolution.target_list, Sizes.Sizes, Soundness.sound, Tables.Tables, Tables.node_at, Tables.not_inactive, Tables.present, Tables.providing, declared.OptionUnresolved.OptionUnresolved, declared.Phase.Phase, declared.Port.Port, declared.Resolution.Resolution, declared.Unresolved.Unresolved, declared.records.Node.Node}
+use Rattle.model.specs.{Iteration.target_of, Kernels.asked, Layouts.Layout, Layouts.sound_kernel, Layouts.tables_of, Lifecycle.phase_at, Points.Among, Points.At, Records.binding_in, Records.consumer_in, Records.dependency, Records.provider_in, Records.provision, Resolution.Owner, Resolution.Owns, Resolution.Provides, Resolution.Says, Resolution.Target, Resolution.bind_ports, Resolution.dependency_ports, Resolution.missing_of, Resolution.offers, Resolution.resolve, Resolution.target, Resolution.target_list, Sizes.Sizes, Soundness.sound, Tables.Tables, Tables.node_at, Tables.not_inactive, Tables.present, Tables.providing, declared.Phase.Phase, declared.Port.Port, declared.Resolution.Resolution, declared.Unresolved.Unresolved, declared.records.Node.Node}
 use Rattle.model.proofs.{Laws.Booleans.and_i, Laws.Booleans.cases, Laws.Booleans.clash, Laws.Facts.Linked, Laws.Facts.LiveOk, Laws.Facts.facts, Laws.Facts.port-same, Laws.Lists.at_in, Laws.Lists.in_at, Laws.Lists.never, Laws.Lists.none_in, Laws.Nodes.present-lt, Laws.Phases.active-is, Laws.Resolution.FirstUnresolved, Laws.Resolution.LookedUp, Laws.Resolution.bind_missing, Laws.Resolution.bind_something, Laws.Resolution.looked_up_lem, Laws.Resolution.missing-bind, Laws.Resolution.target-bound, Laws.Resolution.target_none, Laws.Resolution.wants_in, Theorems.Points.at-node, Theorems.Points.node_at_lem, Theorems.Points.to_present}
 
 -- ---- resolve
@@ -72,7 +73,7 @@ module _ (S : Sizes) (T : Tables) (h : sound S T ≡ true) (p : Port) where
 nothing-missing : {u : Unresolved} → Target.nothing ≡ Target.missing u → ⊥
 nothing-missing e = let z : ◌≡◌ {A = ℕ} 0 1 = cc in omega arith
 
-pub named-is : (t : Target) (u : Unresolved) → missing_of t ≡ OptionUnresolved.Some u → t ≡ Target.missing u
+pub named-is : (t : Target) (u : Unresolved) → missing_of t ≡ Some u → t ≡ Target.missing u
 named-is (Target.bound bs) u e = let z : ◌≡◌ {A = ℕ} 0 1 = cc in absurd (omega arith)
 named-is (Target.missing v) u e = let z : v ≡ u = cc in ap Target.missing z
 named-is Target.nothing u e = let z : ◌≡◌ {A = ℕ} 0 1 = cc in absurd (omega arith)
@@ -117,13 +118,13 @@ module _ (T : Tables) (id : ℕ) where
       back n = target-bound T id (rw (n.there, n.kept)) ∙ missing-bind (resolve T) ports u n.first
 
   -- and names one exactly if the component is present and not retired and there is no target
-  pub names_when : ((u : Unresolved) × (missing_of (target T id) ≡ OptionUnresolved.Some u)) ↔ ((present T.nodes id ≡ true) × (retired ≡ false) × (target_list (target T id) ≡ none))
+  pub names_when : ((u : Unresolved) × (missing_of (target T id) ≡ Some u)) ↔ ((present T.nodes id ≡ true) × (retired ≡ false) × (target_list (target T id) ≡ none))
   names_when = (λ (u, e). forth u (named-is (target T id) u e), λ (t, r, e). back (target T id) refl (target-bound T id (rw (t, r))) e)
     where
       forth : (u : Unresolved) → target T id ≡ Target.missing u → (present T.nodes id ≡ true) × (retired ≡ false) × (target_list (target T id) ≡ none)
       forth u m = let n : Names T id u = (target-names u).0 m in (n.there, n.kept, ap target_list m)
 
-      back : (t : Target) → target T id ≡ t → target T id ≡ bind_ports (resolve T) ports → target_list (target T id) ≡ none → (u : Unresolved) × (missing_of (target T id) ≡ OptionUnresolved.Some u)
+      back : (t : Target) → target T id ≡ t → target T id ≡ bind_ports (resolve T) ports → target_list (target T id) ≡ none → (u : Unresolved) × (missing_of (target T id) ≡ Some u)
       back (Target.bound bs) e b n = never bs (sym n ∙ ap target_list e)
       back (Target.missing u) e b n = (u, ap missing_of e)
       back Target.nothing e b n = absurd (bind_something (resolve T) ports (sym b ∙ e))
@@ -153,14 +154,14 @@ module _ (S : Sizes) (k : Layout) (id : ℕ) where
       go false = (λ e. absurd (nothing-missing e), λ (s, n). clash true refl (sym s))
 
   pub kernel-names-when :
-      ((u : Unresolved) × (missing_of (target_of S k id) ≡ OptionUnresolved.Some u))
+      ((u : Unresolved) × (missing_of (target_of S k id) ≡ Some u))
       ↔ ((sound_kernel S k ≡ true) × (present T.nodes id ≡ true) × ((node_at T.nodes id).retired ≡ false) × (target_list (target_of S k id) ≡ none))
   unfolding asked
   kernel-names-when = go (sound_kernel S k)
     where
       go :
           (b : Bool)
-          → ((u : Unresolved) × (missing_of (cond b (target T id) Target.nothing) ≡ OptionUnresolved.Some u))
+          → ((u : Unresolved) × (missing_of (cond b (target T id) Target.nothing) ≡ Some u))
           ↔ ((b ≡ true) × (present T.nodes id ≡ true) × ((node_at T.nodes id).retired ≡ false) × (target_list (cond b (target T id) Target.nothing) ≡ none))
       go true = (λ w. let (t, r, e) = (names_when T id).0 w in (refl, t, r, e), λ (s, t, r, e). (names_when T id).1 (t, r, e))
       go false = (λ (u, e). absurd (nothing-missing (named-is Target.nothing u e)), λ w. clash true refl (sym w.0))

@@ -6,7 +6,7 @@ use Rattle.model.proofs.{Laws.Booleans.cases, Laws.Booleans.not_f, Laws.Committe
 -- ---- the live links, and the dependencies, by component
 
 live-sum : (n : ℕ) (ls : List Link) → ((l : Link) → List-as-Memᴰ l ls → l.live ≡ true → consumer_in l < n) → length (keep is_live ls) ≤ sum_to n (λ i. length (committed ls i))
-unfolding keep committed is_live_link_of
+unfolding committed is_live_link_of
 live-sum n [] h = omega arith
 live-sum n (l ∷ ls) h = go l.live refl (live-sum n ls (λ m k. h m (List·Memᴰ·tail k)))
   where
@@ -28,7 +28,7 @@ live-sum n (l ∷ ls) h = go l.live refl (live-sum n ls (λ m k. h m (List·Mem�
     go false e ih = ih
 
 ports-sum : (n : ℕ) (ds : List Declaration) → sum_to n (λ i. length (dependency_ports ds i)) ≤ length ds
-unfolding keep dependency_ports is_dependency_of
+unfolding dependency_ports is_dependency_of
 ports-sum n [] = omega (arith, sum-zero n)
 ports-sum n (d ∷ ds) = go d.provides (ports-sum n ds)
   where

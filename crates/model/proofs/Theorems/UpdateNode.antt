@@ -95,7 +95,6 @@ unblocked T id n u l m = go l.live refl (eqb (consumer_in l) id) refl (eqb (prov
     go true e true f true g = let (a, b, r) = u.provides l m e (eqb-true _ _ g) in rw (ready (a, b), r)
 
 none_any : {A : Type 0} (p : A → Bool) (xs : List A) → ((x : A) → List-as-Memᴰ x xs → p x ≡ false) → any p xs ≡ false
-unfolding any
 none_any p [] f = refl
 none_any p (x ∷ xs) f = rw (f x (List·Memᴰ·head refl), none_any p xs (λ y m. f y (List·Memᴰ·tail m)))
 

@@ -28,11 +28,10 @@ abbrev ends : ℕ → Bool
 ends byte = eqb byte 10
 
 no_digit : (d : ℕ) → keep ends (digit_byte d ∷ []) ≡ []
-unfolding keep
 no_digit d = rw (ne_eqb (48 + d) 10 (λ e. omega arith))
 
 digits_only : (most n : ℕ) → keep ends (digits_of most n) ≡ []
-unfolding digits_of keep
+unfolding digits_of
 digits_only zero n = refl
 digits_only (suc most) n = go (ltb n 10) (digits_only most (n / 10))
   where
@@ -42,6 +41,6 @@ digits_only (suc most) n = go (ltb n 10) (digits_only most (n / 10))
 
 -- so there are as many as lines
 pub line-ends : (count : ℕ) (answers : List ℕ) → length (keep (λ byte. eqb byte 10) (lines_from count answers)) ≡ length answers
-unfolding lines_from keep
+unfolding lines_from
 line-ends count [] = refl
 line-ends count (answer ∷ answers) = simp (keep_append, digits_only) (ap suc (line-ends (suc count) answers))

@@ -1,9 +1,10 @@
 -- A turn of the player's loop: what each kind of arm gives is the turn of the bytes that it read.
+use Rattle.std.proofs.Common.{Err, Ok, Result, is_ok}
 use Rattle.model.proofs.Logic.{Bool, List, ◌-◌, ◌<◌, ◌∙◌, ◌≡◌, ◌≤◌, ap, arith, cond, false, get_or, le-ltb, length, lt-ltb, ltb, ltb-false, refl, suc, sym, take, true, zero, ℕ}
-use Rattle.kernel.specs.{Fields.layout_of, Outcomes.CompactionReturns, Outcomes.Handed, Outcomes.InsertReturns, Outcomes.Returns, Outcomes.command, declared.CompactionOutcome.CompactionOutcome, declared.InsertOutcome.InsertOutcome, declared.Kernel.Kernel, declared.Outcome.Outcome}
-use Rattle.model.specs.{Answers.answer_number, Answers.insert_answer, Answers.insert_answer_number, Answers.removed_count, Commands.Command, Commands.Step, Commands.report, Commands.step, Kernels.asked, Kernels.commanded, Layouts.sound_kernel, Layouts.tables_of, Refusals.Reply, Tables.Tables, declared.Error.Error, declared.Port.Port, declared.PortList.PortList}
+use Rattle.kernel.specs.{Fields.layout_of, Outcomes.CompactionReturns, Outcomes.Handed, Outcomes.InsertReturns, Outcomes.Returns, Outcomes.command, declared.Kernel.Kernel, declared.Outcome.Outcome}
+use Rattle.model.specs.{Answers.answer_number, Answers.compaction_answer, Answers.insert_answer, Commands.Command, Commands.Step, Commands.report, Commands.step, Kernels.asked, Kernels.commanded, Layouts.sound_kernel, Layouts.tables_of, Refusals.Reply, Tables.Tables, declared.Error.Error, declared.Port.Port, declared.PortList.PortList}
 use Rattle.model.proofs.{Laws.Booleans.or_f_l, Laws.Booleans.or_f_r, Laws.Refusals.step-cases}
-use Rattle.player.specs.{Log.operand_length, Played.Item, Played.State, Played.Turn, Played.addition, Played.detail_of, Played.emptied, Played.is_last, Played.is_unknown, Played.item, Played.meanings, Played.on, Played.taken, Played.turn, Played.with_port, Players.issued_by}
+use Rattle.player.specs.{Log.operand_length, Played.Item, Played.State, Played.Turn, Played.addition, Played.detail_of, Played.emptied, Played.is_last, Played.is_unknown, Played.item, Played.meanings, Played.on, Played.taken, Played.turn, Played.with_port, Players.detail_in}
 use Rattle.sizes.specs.{Sizes.sizes}
 
 -- ---- what a command replies besides its answer
@@ -32,11 +33,29 @@ module _ (k : Kernel) (c : Command) where
   none_told : Tells (λ r. 0) c → 0 ≡ detail_of (command k c).reply
   none_told g = told (λ r. 0) k c (λ e. refl) g
 
-  issued-told : Tells (λ r. issued_by (insert_answer r)) c → {o : InsertOutcome} → InsertReturns k c o → issued_by o.answer ≡ detail_of (command k c).reply
-  issued-told g R = ap (λ (u : InsertOutcome). issued_by u.answer) R.0 ∙ told (λ r. issued_by (insert_answer r)) k c (λ e. refl) g
+  issued-told : Tells (λ r. detail_in (insert_answer r)) c → {o : Outcome ℕ} → InsertReturns k c o → detail_in o.answer ≡ detail_of (command k c).reply
+  issued-told g R = ap (λ (u : Outcome ℕ). detail_in u.answer) R.0 ∙ told (λ r. detail_in (insert_answer r)) k c (λ e. refl) g
 
-  removed-told : Tells removed_count c → {o : CompactionOutcome} → CompactionReturns k c o → o.removed ≡ detail_of (command k c).reply
-  removed-told g R = ap (λ (u : CompactionOutcome). u.removed) R.0 ∙ told removed_count k c (λ e. refl) g
+  removed-told : Tells (λ r. detail_in (compaction_answer r)) c → {o : Outcome ℕ} → CompactionReturns k c o → detail_in o.answer ≡ detail_of (command k c).reply
+  removed-told g R = ap (λ (u : Outcome ℕ). detail_in u.answer) R.0 ∙ told (λ r. detail_in (compaction_answer r)) k c (λ e. refl) g
+
+-- what is refused has a number
+refused_number : {A : Type 0} (r : Result A Error) → is_ok r ≡ false → answer_number r ≡ 0 → ⊥
+refused_number (Ok x) e z = cc
+refused_number (Err Error.Unknown) e z = omega arith
+refused_number (Err Error.InvalidState) e z = omega arith
+refused_number (Err Error.Retired) e z = omega arith
+refused_number (Err Error.MissingDependency) e z = omega arith
+refused_number (Err Error.Conflict) e z = omega arith
+refused_number (Err Error.Changed) e z = omega arith
+refused_number (Err Error.Relied) e z = omega arith
+refused_number (Err Error.Children) e z = omega arith
+refused_number (Err Error.Capacity) e z = omega arith
+refused_number (Err Error.Damaged) e z = omega arith
+
+-- and its kernel is the one that was handed in
+pub refused-kept : {A : Type 0} {k : Kernel} (o : Outcome A) → ((answer_number o.answer ≡ 0 → ⊥) → o.kernel ≡ k) → is_ok o.answer ≡ false → k ≡ o.kernel
+refused-kept o kept e = sym (kept (refused_number o.answer e))
 
 -- ---- the last of the sixteen bytes
 
@@ -137,27 +156,21 @@ module _ (s : State) (byte : ℕ) (rest : List ℕ) where
       listing-steps d e x y = let kernel = q ∙ H.0 in stepping e refl (λ i. on s (suc (operand_length byte)) (kernel i) (x i) (y i)) d (a ∙ H.1)
 
     -- one that is done or refused
-    module _ (c : Command) (g : Tells (λ r. 0) c) {o : Outcome} (R : Returns s.kernel c o) (a : answer ≡ answer_number o.answer) (d : detail ≡ 0) where
+    module _ (c : Command) (g : Tells (λ r. 0) c) {o : Outcome (Unit {0})} (R : Returns s.kernel c o) (a : answer ≡ answer_number o.answer) (d : detail ≡ 0) where
       pub plain_done : item s byte rest ≡ Item.plain c → k ≡ o.kernel → ds ≡ s.dependencies → ps ≡ s.provisions → Steps k ds ps detail answer
       plain_done e q x y = plain-steps c R.1 q a (d ∙ none_told s.kernel c g) e x y
-
-      -- of a refused one the kernel is not taken back
-      pub plain-kept : item s byte rest ≡ Item.plain c → (answer ≡ 0 → ⊥) → k ≡ s.kernel → ds ≡ s.dependencies → ps ≡ s.provisions → Steps k ds ps detail answer
-      plain-kept e r q x y = plain_done e (q ∙ sym (R.1.2 (λ h. r (a ∙ h)))) x y
 
       pub listing-done : item s byte rest ≡ Item.listing c → k ≡ o.kernel → ds ≡ emptied s.dependencies → ps ≡ emptied s.provisions → Steps k ds ps detail answer
       listing-done e q x y = listing-steps c R.1 q a (d ∙ none_told s.kernel c g) e x y
 
     -- an insert
-    module _ (c : Command) (g : Tells (λ r. issued_by (insert_answer r)) c) {o : InsertOutcome} (R : InsertReturns s.kernel c o)
-        (a : answer ≡ insert_answer_number o.answer) (d : detail ≡ issued_by o.answer) where
+    module _ (c : Command) (g : Tells (λ r. detail_in (insert_answer r)) c) {o : Outcome ℕ} (R : InsertReturns s.kernel c o)
+        (a : answer ≡ answer_number o.answer) (d : detail ≡ detail_in o.answer) where
       pub insert-done : item s byte rest ≡ Item.listing c → k ≡ o.kernel → ds ≡ emptied s.dependencies → ps ≡ emptied s.provisions → Steps k ds ps detail answer
       insert-done e q x y = listing-steps c R.1 q a (d ∙ issued-told s.kernel c g R) e x y
 
-      pub insert-kept : item s byte rest ≡ Item.listing c → (answer ≡ 0 → ⊥) → k ≡ s.kernel → ds ≡ emptied s.dependencies → ps ≡ emptied s.provisions → Steps k ds ps detail answer
-      insert-kept e r q x y = insert-done e (q ∙ sym (R.1.2 (λ h. r (a ∙ h)))) x y
-
     -- a compaction
-    module _ (c : Command) (g : Tells removed_count c) {o : CompactionOutcome} (R : CompactionReturns s.kernel c o) (a : answer ≡ answer_number o.answer) (d : detail ≡ o.removed) where
+    module _ (c : Command) (g : Tells (λ r. detail_in (compaction_answer r)) c) {o : Outcome ℕ} (R : CompactionReturns s.kernel c o)
+        (a : answer ≡ answer_number o.answer) (d : detail ≡ detail_in o.answer) where
       pub compaction-done : item s byte rest ≡ Item.plain c → k ≡ o.kernel → ds ≡ s.dependencies → ps ≡ s.provisions → Steps k ds ps detail answer
       compaction-done e q x y = plain-steps c R.1 q a (d ∙ removed-told s.kernel c g R) e x y

@@ -6,4 +6,4 @@ use Rattle.player.proofs.nobrighi_play.Goals as goal
 
 pub returns : goal.returns
 unfolding state_after
-returns c = plays-puts fresh c.args.log.now c.args.answers.now c.start.result (ap state_of c.start.ensures) c.play-played.ensures.plays
+returns c = plays-puts fresh c.args.log.now c.args.answers.now c.start.result (ap state_of c.start.ensures) c.play.ensures.plays

@@ -1,8 +1,9 @@
 -- Of every log, from every state: the answer that is played is the one that is explained.
+use Rattle.std.specs.Prelude.{Err, Ok}
 use Rattle.model.proofs.Logic.{Bool, List, [], ◌∙◌, ◌∷◌, ◌≡◌, ap, cond, false, get_or, refl, suc, sym, true, zero, ℕ}
 use Rattle.explain.specs.{Explanations.explanation_of}
 use Rattle.kernel.specs.{Fields.layout_of, Outcomes.command, declared.Kernel.Kernel}
-use Rattle.model.specs.{Commands.Command, Explanation.reply_by, Refusals.Reply, Refusals.accepted, Refusals.reply_number, declared.PortList.PortList, declared.explanation.Explanation.Explanation}
+use Rattle.model.specs.{Commands.Command, Explanation.reply_by, Refusals.Reply, Refusals.accepted, Refusals.reply_number, declared.PortList.PortList, Explanation.Explanation}
 use Rattle.model.proofs.{Laws.Booleans.clash, Theorems.Explanation.every_refusal_explained}
 use Rattle.player.specs.{Log.operand_length, Played.Item, Played.State, Played.Turn, Played.addition, Played.answers_of, Played.is_full, Played.is_last, Played.item, Played.taken, Played.turn, Played.turns_from}
 use Rattle.reasons.specs.{Reasons.EveryAnswerExplained, Reasons.addition_said, Reasons.said_in, Reasons.said_number, Reasons.said_of, declared.said.LogExplanation.LogExplanation}
@@ -22,15 +23,15 @@ command-said : (k : Kernel) (c : Command) → reply_number (reply_by (explanatio
 command-said k c = go (explanation_of k c) refl
   where
     go : (x : Explanation) → explanation_of k c ≡ x → reply_number (reply_by x) ≡ reply_number (command k c).reply
-    go Explanation.Accepted e = sym (accepted-number (command k c).reply ((every_refusal_explained sizes (layout_of k) c).accepts.0 e))
-    go (Explanation.Refused r) e = ap reply_number (sym ((every_refusal_explained sizes (layout_of k) c).refuses r e))
+    go (Ok _) e = sym (accepted-number (command k c).reply ((every_refusal_explained sizes (layout_of k) c).accepts.0 e))
+    go (Err r) e = ap reply_number (sym ((every_refusal_explained sizes (layout_of k) c).refuses r e))
 
 -- a port for a list
 addition-said : (l : PortList) → said_number (addition_said l) ≡ addition l
 unfolding addition
 addition-said l = go (is_full l)
   where
-    go : (b : Bool) → said_number (cond b (LogExplanation.Full l.count) (LogExplanation.Command Explanation.Accepted)) ≡ cond b 9 0
+    go : (b : Bool) → said_number (cond b (LogExplanation.Full l.count) (LogExplanation.Command (Ok tt))) ≡ cond b 9 0
     go true = refl
     go false = refl
 

@@ -2,4 +2,4 @@
 use Rattle.slices.proofs.check_insert.Goals as goal
 
 pub returns : goal.returns
-returns c = rw (← c.port_list-wanted.ensures, ← c.port_list-offered.ensures) c.check_insert.ensures
+returns c = rw (← c.port_list.ensures, ← c.port_list-2.ensures) c.check_insert.ensures

@@ -1,28 +1,17 @@
--- `slices::port_list` meets its contract: each turn puts one port of the slice into the list.
-use Rattle.model.proofs.Logic.{List, ◌+◌, ◌<◌, ◌∙◌, ◌≡◌, ◌≤◌, add-one, ap, arith, get_or, length, ℕ}
-use Rattle.loops.specs.Limits.{AtMost}
-use Rattle.model.specs.{Interface.port_list, Records.blank_port, Sizes.list_limit, declared.Port.Port, declared.PortList.PortList}
-use Rattle.slices.proofs.{Laws.Copies.copied, Laws.Copies.copied_all, Laws.Copies.copied_next, port_list.Invariants.Filled}
+-- `slices::port_list` meets its contract: the copied ports, and the blanks of the list behind them.
+use Rattle.model.proofs.Logic.{List, ◌++◌, ◌≡◌, ◌≤◌, ◌<◌, arith, drop, length, replicate, take, ℕ}
+use Rattle.std.proofs.lemmas.Grind.{common_steps}
+use Rattle.std.proofs.lemmas.List.{drop-replicate}
+use Rattle.model.specs.{Lists.padded, Records.blank_port, declared.Port.Port}
 use Rattle.slices.proofs.port_list.Goals as goal
-use Rattle.slices.specs.Copies.{with_port}
 
-module _ {xs : List Port} {end : ℕ} {list : PortList} {i : ℕ} (m : AtMost (length xs) list_limit end) (s : Filled xs end list i) where
-  more : (r : PortList) → i < end → r ≡ with_port list i (get_or xs i blank_port) → Filled xs end r (i + 1)
-  more r l e = record {
-    within = omega arith;
-    filled =
-        rw (add-one i) (e ∙ ap (λ (y : PortList). with_port y i (get_or xs i blank_port)) s.filled
-        ∙ copied_next xs i (omega (arith, m.within)) (omega (arith, m.below)));
-  }
-
-  done : end ≤ i → list ≡ port_list xs
-  done l = let e : i ≡ end = omega (arith, s.within) in s.filled ∙ ap (copied xs) e ∙ copied_all xs end m
-
-pub loop-i-init : goal.loop-i-init
-loop-i-init c = record { within = omega arith; filled = c.blank_list-list.ensures }
-
-pub loop-i-preserved : goal.loop-i-preserved
-loop-i-preserved c = more c.kept-end.ensures c.loop-i.invariant c.with_port-list.result c.loop-i-test.true c.with_port-list.ensures
+copied : {A : Type 0} (n k : ℕ) (d : A) (xs out : List A) → k ≤ n → k ≤ length xs → (k < length xs → k ≡ n) → out ≡ take k xs → out ++ drop k (replicate n d) ≡ take n (padded n d xs)
+unfolding padded
+copied n k d xs out l m w e = grind (arith, common_steps, drop-replicate)
 
 pub returns : goal.returns
-returns c = done c.kept-end.ensures c.loop-i.invariant c.loop-i-test.false
+returns c =
+    let ports = c.args.ports.now in
+    let h : ◌≡◌ {A = List Port} (c.copy_from_slice.new.self ++ drop c.min-kept.result (replicate 32 c.blank_port-list.result)) (take 32 (padded 32 blank_port ports)) =
+    rw c.blank_port-list.ensures (copied 32 c.min-kept.result blank_port ports _ (omega arith) (omega arith) (λ l. omega arith) c.copy_from_slice.ensures.after) in
+    λ i. record { ports = h i; count = length ports }

@@ -1,59 +1,44 @@
--- Each scan's answer decides, or leaves soundness to the scans after it.
-use Rattle.model.proofs.Logic.{List, ◌∙◌, arith, sym, take}
-use Rattle.model.specs.{Layouts.Layout, Layouts.Sized, declared.records.Declaration.Declaration}
-use Rattle.loops.specs.{Columns.declarations_of}
-use Rattle.sizes.specs.{Sizes.DECLARATIONS, Sizes.sizes}
-use Rattle.soundness.proofs.{Laws.EntryTest.Scanned, Laws.EntryTest.Told, Laws.EntryTest.counts-fail, Laws.EntryTest.covers, Laws.EntryTest.declarations-fail, Laws.EntryTest.links-fail, Laws.EntryTest.nodes-fail}
+use Rattle.model.proofs.Logic.{arith, sym, true, ◌∙◌, ◌≡◌}
+use Rattle.model.specs.{Layouts.Layout, Layouts.tables_of}
+use Rattle.sizes.specs.Sizes.{sizes}
+use Rattle.soundness.proofs.Laws.EntryTest.{counts_fail, counts_pass, counts_within, declarations_fail, links_decide, nodes_fail, nodes_pass}
 use Rattle.soundness.proofs.tables_sound.Goals as goal
-use Rattle.soundness.proofs.tables_sound.Goals.{After-one_owner}
+use Rattle.soundness.proofs.tables_sound.Goals.{After-nodes_ok, else-nodes_ok, then-nodes_ok}
 
--- the nodes, the declarations' columns and these scanned
-module _ (c : After-one_owner) where
+pub returns-then-n-gt-IDENTITIES : goal.returns-then-n-gt-IDENTITIES
+returns-then-n-gt-IDENTITIES c = sym (counts_fail sizes _ (λ n d l. omega arith))
+
+-- the counts pass, and what the scan of the nodes tells
+module _ (c : After-nodes_ok) where
   abbrev k : Layout
-  k = record { nodes = c.args.nodes; node_count = c.args.n; declarations = c.args.declarations; declaration_count = c.args.d; links = c.args.links; link_count = c.args.l }
+  k = record { nodes = c.args.nodes.now; node_count = c.args.n; declarations = c.args.declarations.now; declaration_count = c.args.d; links = c.args.links.now; link_count = c.args.l }
 
-  sized : Sized sizes k
-  sized = record { nodes = omega arith; declarations = omega arith; links = omega arith }
+  within : counts_pass sizes k ≡ true
+  within = counts_within sizes k (omega arith) (omega arith) (omega arith)
 
-  abbrev declarations : List Declaration
-  declarations = let cols = c.declaration_columns-blank.new in take c.args.d (declarations_of DECLARATIONS cols.owner cols.key cols.realm cols.provides)
+  nodes : c.nodes_ok.result ≡ nodes_pass sizes k
+  unfolding tables_of
+  nodes = rw (c.split_at.ensures.front, c.split_at.ensures.back) at c.nodes_ok.ensures
 
-  scanned : let cols = c.nodes_ok.new in Scanned sizes k cols.present cols.installed cols.serving cols.generation declarations
-  scanned =
-      let e = c.nodes_ok.ensures in
-      let t = c.if-not-nodes_ok.false in
-      let q = e.1 t in
-      record {
-        counts = c.if-not-n-d.false;
-        nodes = sym e.0 ∙ t;
-        present = q.0;
-        installed = q.1;
-        serving = q.2;
-        generations = q.3;
-        declarations = c.declaration_columns-blank.ensures.0;
-      }
+pub returns-then-declarations_ok : goal.returns-then-declarations_ok
+unfolding tables_of
+returns-then-declarations_ok c =
+    let u = (goal.at.returns-then-declarations_ok c).After-nodes_ok in
+    let links = rw (c.split_at.ensures.front, c.of-chains.ensures, c.split_at-2.ensures.front, c.split_at-3.ensures.front, c.split_at-3.ensures.back) at c.links_ok.ensures in
+    elim c.if-nodes_ok.branch [
+      | then-nodes_ok w ↦
+          let declarations = rw (c.split_at.ensures.front, c.of-chains.ensures, c.split_at-2.ensures.front, c.split_at-2.ensures.back) at w.declarations_ok.ensures in
+          links_decide sizes (k u) (within u) (nodes u) w.if-nodes_ok.true declarations (sym w.value-is ∙ c.if-declarations_ok.true) links
+      | else-nodes_ok w ↦ cc
+    ]
 
-  told : Told sizes k c.nodes_ok.new.present declarations c.declaration_columns-blank.result c.owners_issued.result c.one_owner.result
-  told = record { blank = c.declaration_columns-blank.ensures.1; owners = c.owners_issued.ensures _ _ _; one = c.one_owner.ensures }
-
-pub returns-then-not-n-d : goal.returns-then-not-n-d
-returns-then-not-n-d c = sym (counts-fail sizes _ c.if-not-n-d.true)
-
-pub returns-then-not-nodes_ok : goal.returns-then-not-nodes_ok
-returns-then-not-nodes_ok c = sym (nodes-fail sizes _ (sym c.nodes_ok.ensures.0 ∙ c.if-not-nodes_ok.true))
-
-pub returns-then-not-blank-owners_issued : goal.returns-then-not-blank-owners_issued
-returns-then-not-blank-owners_issued c =
-    let u = (goal.at.returns-then-not-blank-owners_issued c).After-one_owner in
-    sym (declarations-fail (sized u) (scanned u) (told u) c.if-not-blank-owners_issued.true)
-
-pub returns-then-not-links_ok : goal.returns-then-not-links_ok
-returns-then-not-links_ok c =
-    let u = (goal.at.returns-then-not-links_ok c).After-one_owner in
-    sym (links-fail (sized u) (scanned u) (told u) c.if-not-blank-owners_issued.false c.links_ok.ensures.0 c.if-not-links_ok.true)
-
-pub returns : goal.returns
-returns c =
-    let u = (goal.at.returns c).After-one_owner in
-    let t = c.if-not-links_ok.false in
-    c.covered.ensures _ _ _ (c.links_ok.ensures.1 t) ∙ sym (covers (sized u) (scanned u) (told u) c.if-not-blank-owners_issued.false c.links_ok.ensures.0 t)
+pub returns-else-declarations_ok : goal.returns-else-declarations_ok
+unfolding tables_of
+returns-else-declarations_ok c =
+    let u = (goal.at.returns-else-declarations_ok c).After-nodes_ok in
+    elim c.if-nodes_ok.branch [
+      | then-nodes_ok w ↦
+          let declarations = rw (c.split_at.ensures.front, c.of-chains.ensures, c.split_at-2.ensures.front, c.split_at-2.ensures.back) at w.declarations_ok.ensures in
+          c.if-declarations_ok.false ∙ declarations_fail sizes (k u) (within u) (nodes u) w.if-nodes_ok.true declarations (sym w.value-is ∙ c.if-declarations_ok.false)
+      | else-nodes_ok w ↦ c.if-declarations_ok.false ∙ nodes_fail sizes (k u) (within u) (nodes u) w.if-nodes_ok.false
+    ]

@@ -1,39 +1,36 @@
--- Text in a buffer: nothing, a byte, one text behind another, a full buffer; and a number's digits: how many there are, and how they are put from the last on.
+-- Text in a buffer: as many bytes as fit, nothing, one text behind another; and a number's digits: how many there are, and how they are put from the last on.
 use Rattle.std.proofs.Common.{◌/◌, ◌%◌, ◌^◌, min}
-use Rattle.loops.specs.Limits.{AtMost}
-use Rattle.model.proofs.Logic.{List, [], ◌++◌, ◌+◌, ◌-◌, ◌<◌, ◌∙◌, ◌∷◌, ◌≡◌, ◌≤◌, add-one, ap, append_assoc, append-nil, arith, dec_lt, drop, drop_of_length-le, get_or, le-ltb, length, length-append, length-drop, length-set, length-take, lt-ltb, refl, set, suc, sym, take, take_all, take-append-drop, take-suc, zero, ℕ}
-use Rattle.text.specs.Written.{Puts, decimal, digit_byte, digits_of, written_at}
+use Rattle.model.proofs.Logic.{List, [], ◌++◌, ◌+◌, ◌-◌, ◌<◌, ◌∙◌, ◌∷◌, ◌≡◌, ◌≤◌, ap, append_assoc, arith, dec_lt, drop, drop_of_length-le, le-ltb, length, length-append, length-drop, length-take, lt-ltb, refl, set, suc, sym, take, take_all, take-append-drop, zero, ℕ}
+use Rattle.text.specs.Written.{Puts, decimal, digit_byte, digits_of, written, written_at}
 use lib.Seq.{drop-nil, take-nil}
-
--- a count that stops at a size, as a minimum
-pub most-min : {count size r : ℕ} → AtMost count size r → r ≡ min count size
-most-min {count} {size} {r} m = go (dec_lt r count)
-  where
-    go : Dec (r < count) → r ≡ min count size
-    go (yes l) = omega (arith, m.within, m.whole l)
-    go (no l) = omega (arith, m.within, m.below)
 
 -- ---- a text in a buffer
 
-pub length-written_at : (at : ℕ) (xs out : List ℕ) → length (written_at at xs out) ≡ length out
+length-written_at : (at : ℕ) (xs out : List ℕ) → length (written_at at xs out) ≡ length out
 length-written_at at xs out = simp (length-append, length-take, length-drop) (omega arith)
+
+-- as many bytes as fit, in the place of as many
+copied_front : (bytes rest : List ℕ) (n : ℕ) → n ≡ min (length bytes) (length rest) → take n bytes ++ drop n rest ≡ written bytes rest
+copied_front bytes rest n e = go (dec_lt (length rest) (length bytes))
+  where
+    go : Dec (length rest < length bytes) → take n bytes ++ drop n rest ≡ written bytes rest
+    go (yes l) =
+        let m : n ≡ length rest = omega (arith, e) in
+        let d : (k : ℕ) → length rest ≤ k → drop k rest ≡ [] = λ k h. drop_of_length-le rest h in
+        rw (m, d (length rest) (omega arith), d (length bytes) (omega arith)) refl
+    go (no l) =
+        let m : n ≡ length bytes = omega (arith, e) in
+        rw (m, take_all (length bytes) bytes (omega arith), take_all (length rest) bytes (omega arith)) refl
+
+pub puts_front : (bytes out front : List ℕ) (at n k : ℕ) → at ≤ length out → n ≡ min (length bytes) (length out - at) → k ≡ n → front ≡ take k bytes →
+    take at out ++ (front ++ drop k (drop at out)) ≡ written_at at bytes out
+puts_front bytes out front at n k l e d f =
+    let m : k ≡ min (length bytes) (length (drop at out)) = simp (length-drop) (omega arith) in
+    rw (f, copied_front bytes (drop at out) k m)
 
 -- nothing
 pub puts_none : (out : List ℕ) (at : ℕ) {at' : ℕ} → at' ≡ min at (length out) → Puts [] out at out at'
 puts_none out at e = (rw take-nil (sym (take-append-drop at out)), omega arith)
-
--- nothing more, in a full buffer
-pub puts_full : (xs out : List ℕ) (at : ℕ) {at' : ℕ} → length out ≤ at → at' ≡ length out → Puts xs out at out at'
-puts_full xs out at l e = (rw (drop_of_length-le out l, take_all at out l, drop-nil) (sym (append-nil out)), omega arith)
-
--- a byte
-pub puts_byte : (b : ℕ) (out : List ℕ) (at : ℕ) → at < length out → Puts (b ∷ []) out at (set out at b) (at + 1)
-puts_byte b out at l = (go at out l, omega arith)
-  where
-    go : (at : ℕ) (out : List ℕ) → at < length out → set out at b ≡ written_at at (b ∷ []) out
-    go at [] l = absurd (omega arith)
-    go zero (o ∷ out) l = ap (λ (r : List ℕ). b ∷ (r ++ out)) (sym (take-nil (length out)))
-    go (suc at) (o ∷ out) l = ap (◌∷◌ o) (go at out (omega arith))
 
 -- one text behind another
 written_then : (at : ℕ) (xs ys out : List ℕ) → written_at (min (at + length xs) (length out)) ys (written_at at xs out) ≡ written_at at (xs ++ ys) out
@@ -50,26 +47,6 @@ pub puts_then :
     (xs ys out : List ℕ) (at : ℕ) {out' out'' : List ℕ} {at' at'' : ℕ} → Puts xs out at out' at' → Puts ys out' at' out'' at'' → Puts (xs ++ ys) out at out'' at''
 puts_then xs ys out at (p, a) (q, b) =
     (q ∙ rw (p, a) (written_then at xs ys out), omega (arith, length-append xs ys, ap length p ∙ length-written_at at xs out))
-
--- the first i bytes are put
-pub record Copied (bytes out₀ : List ℕ) (at : ℕ) (out : List ℕ) (at' i : ℕ) : Type 0 where
-  pub same : length out ≡ length out₀
-  pub within : at' ≤ length out
-  pub puts : Puts (take i bytes) out₀ at out at'
-
-module _ {bytes out₀ : List ℕ} {at : ℕ} {out : List ℕ} {at' i : ℕ} (s : Copied bytes out₀ at out at' i) where
-  pub copied_next : i < length bytes → at' < length out → Copied bytes out₀ at (set out at' (get_or bytes i 0)) (at' + 1) (i + 1)
-  copied_next l m =
-      let p = puts_then _ _ _ _ s.puts (puts_byte (get_or bytes i 0) out at' m) in
-      record { same = rw length-set s.same; within = rw length-set (omega arith); puts = rw (add-one i, take-suc bytes i 0 l) p }
-
-  pub copied_all : length bytes ≤ i → Puts bytes out₀ at out at'
-  copied_all l = rw (take_all i bytes l) at s.puts
-
-  pub copied_full : length out ≤ at' → Puts bytes out₀ at out at'
-  copied_full l =
-      let e : at' ≡ length out = omega (arith, s.within) in
-      rw (take-append-drop i bytes) at (puts_then _ _ _ _ s.puts (puts_full (drop i bytes) out at' l e))
 
 -- ---- a number's digits
 
@@ -99,13 +76,6 @@ length_digits (suc most) n (suc k) l z = go (dec_lt n 10) (length_digits most (n
 
 pub length-decimal : (n k : ℕ) → n < 10 ^ k → 0 < k → length (decimal n) ≤ k
 length-decimal n k l z = length_digits 20 n k l z
-
-pub decimal-some : (n : ℕ) → 0 < length (decimal n)
-decimal-some n = go (dec_lt n 10)
-  where
-    go : Dec (n < 10) → 0 < length (decimal n)
-    go (yes d) = rw (digits_one 19 n d) (omega arith)
-    go (no d) = rw (digits_more 19 n (omega arith), length-append) (omega arith)
 
 -- ---- digits put from the last on
 

@@ -1,11 +1,8 @@
--- The first such record of what is left of the table is the whole's.
-use Rattle.model.proofs.Logic.{◌-◌, take}
-use Rattle.loops.proofs.{Laws.Scanning.FindingAt}
-use Rattle.model.specs.{Records.is_child_of, Lists.find_at}
+-- What is left of the nodes names what they all do.
+use Rattle.std.proofs.Common.{◌≡◌, drop}
+use Rattle.model.specs.{Records.is_child_of, declared.explanation.Witness.Witness}
+use Rattle.explain.proofs.{Laws.Found.found_from}
 use Rattle.explain.proofs.witnesses.child_of.Given as goal
 
-abbrev pub invariant-loop-i : goal.invariant-loop-i
-invariant-loop-i l = FindingAt (is_child_of l.id) l.nodes l.end l.i (find_at (is_child_of l.id) 0 (take l.count l.nodes))
-
-abbrev pub decreases-loop-i : goal.decreases-loop-i
-decreases-loop-i l = l.end - l.i
+abbrev pub invariant-loop-child : goal.invariant-loop-child
+invariant-loop-child l = found_from (λ i n. Witness.Child i) (is_child_of l.id) l.child (drop l.child l.nodes) ≡ found_from (λ i n. Witness.Child i) (is_child_of l.id) 0 l.nodes

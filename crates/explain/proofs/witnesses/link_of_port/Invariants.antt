@@ -1,11 +1,8 @@
--- The first such record of what is left of the table is the whole's.
-use Rattle.model.proofs.Logic.{◌-◌, take}
-use Rattle.loops.proofs.{Laws.Scanning.FindingAt}
-use Rattle.model.specs.{Interface.relies_on, Lists.find_at}
+-- What is left of the links names what they all do.
+use Rattle.std.proofs.Common.{◌≡◌, drop}
+use Rattle.model.specs.{Explanation.link_at, Interface.relies_on}
+use Rattle.explain.proofs.{Laws.Found.found_from}
 use Rattle.explain.proofs.witnesses.link_of_port.Given as goal
 
-abbrev pub invariant-loop-i : goal.invariant-loop-i
-invariant-loop-i l = FindingAt (relies_on l.id l.port) l.links l.end l.i (find_at (relies_on l.id l.port) 0 (take l.count l.links))
-
-abbrev pub decreases-loop-i : goal.decreases-loop-i
-decreases-loop-i l = l.end - l.i
+abbrev pub invariant-loop-place : goal.invariant-loop-place
+invariant-loop-place l = found_from link_at (relies_on l.id l.port) l.place (drop l.place l.links) ≡ found_from link_at (relies_on l.id l.port) 0 l.links

@@ -22,7 +22,7 @@ passed_cleanable T id p = rw (of_passed (begin_cleanup_tests T id) p)
 module _ (p : Node → Bool) where
   -- none passes
   count_none : p blank_node ≡ false → (ns : List Node) → length (keep p ns) ≡ 0 → (i : ℕ) → p (node_at ns i) ≡ false
-  unfolding keep node_at
+  unfolding node_at
   count_none z [] h i = z
   count_none z (n ∷ ns) h i = go (p n) refl i (λ e j. count_none z ns e j)
     where
@@ -32,7 +32,7 @@ module _ (p : Node → Bool) where
       go false e (suc i) ih = ih (rw e at h) i
 
   pub none_count : (ns : List Node) → ((i : ℕ) → p (node_at ns i) ≡ false) → length (keep p ns) ≡ 0
-  unfolding keep node_at
+  unfolding node_at
   none_count [] f = refl
   none_count (n ∷ ns) f = rw (f 0) (none_count ns (λ i. f (suc i)))
 

@@ -15,7 +15,7 @@ record Last (ls : List Link) : Type 0 where
   free : Free ls (consumer_in link)
 
 last-live : (ls : List Link) → ordered ls ≡ true → any is_live ls ≡ true → Last ls
-unfolding onward any
+unfolding onward
 last-live [] h v = clash false v refl
 last-live (l ∷ ls) h v = go (cases (any is_live ls)) (λ x. last-live ls (and_r (all (apart l) (l ∷ ls)) (ordered ls) h) x)
   where

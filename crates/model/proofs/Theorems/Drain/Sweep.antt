@@ -115,7 +115,7 @@ module _ (S : Sizes) (f : Node → Bool) (c : StepCommand) (passes : Passes S f 
 
 module _ {A : Type 0} where
   pub length-places : (p : A → Bool) (i : ℕ) (xs : List A) → length (places p i xs) ≡ length (keep p xs)
-  unfolding places keep
+  unfolding places
   length-places p i [] = refl
   length-places p i (x ∷ xs) = go (p x) (places p (suc i) xs) (keep p xs) (length-places p (suc i) xs)
     where

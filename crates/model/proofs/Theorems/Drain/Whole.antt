@@ -73,7 +73,6 @@ module _ (S : Sizes) (T : Tables) where
 -- ---- how many are restoring and how many are serving
 
 count-split : (p r : Node → Bool) (ns : List Node) → length (keep p ns) ≡ length (keep (λ n. p n && r n) ns) + length (keep (λ n. p n && not (r n)) ns)
-unfolding keep
 count-split p r [] = refl
 count-split p r (n ∷ ns) = go (p n) (r n) (keep p ns) (keep (λ n. p n && r n) ns) (keep (λ n. p n && not (r n)) ns) (count-split p r ns)
   where

@@ -1,6 +1,6 @@
 -- What leave_if_changed and check_iteration answer before the leave and after it: just of those on the list the answers turn.
 use Rattle.model.proofs.Logic.{Bool, List-as-Memᴰ, Option, [], ◌↔◌, ◌∙◌, ◌∷◌, ◌≡◌, ap, arith, false, none, not, refl, some, sym, true, ℕ}
-use Rattle.model.specs.{Commands.Command, Commands.settle, Commands.step, Impact.affected, Impact.has_target, Lifecycle.check_iteration, Lifecycle.leave_if_changed_tests, Lifecycle.leave_tests, Lifecycle.left, Lifecycle.phase_at, Lists.all, Records.is_loading, Records.is_running, Refusals.Reply, Refusals.Tests, Refusals.first, Refusals.or_else, Sizes.Sizes, Tables.Tables, Tables.node_at, Tables.present, declared.Error.Error, declared.records.Node.Node}
+use Rattle.model.specs.{Commands.Command, Commands.settle, Commands.step, Impact.affected, Impact.has_target, Lifecycle.check_iteration, Lifecycle.leave_if_changed_tests, Lifecycle.leave_tests, Lifecycle.left, Lifecycle.phase_at, Records.is_loading, Records.is_running, Refusals.Reply, Refusals.Tests, Refusals.first, Refusals.or_else, Sizes.Sizes, Tables.Tables, Tables.node_at, Tables.present, declared.Error.Error, declared.records.Node.Node}
 use Rattle.model.proofs.{Laws.Booleans.f_not, Laws.Booleans.not_f, Laws.Booleans.not_t, Laws.Phases.loading_running, Laws.Refusals.Passed, Laws.Refusals.of_passed, Laws.Refusals.passed, Laws.Refusals.refused-at, Theorems.Impact.Hit.affected-is, Theorems.Impact.Hit.is-none, Theorems.Impact.Hit.is-there, Theorems.Impact.Hit.not_none, Theorems.Impact.Target.node_kept}
 
 pub done_refused : {C : Type 0} {e : Error} → Reply.refused e ≡ Reply.done → C
@@ -13,7 +13,6 @@ module _ (a b c : Bool) where
   row = (a, Error.Unknown) ∷ (b, Error.InvalidState) ∷ (c, Error.Changed) ∷ []
 
   row-changed : (or_else (first row) Reply.done ≡ Reply.refused Error.Changed) ↔ ((a ≡ false) × (b ≡ false) × (c ≡ true))
-  unfolding all
   row-changed =
       let (to, of) = refused-at ((a, Error.Unknown) ∷ (b, Error.InvalidState) ∷ []) c Error.Changed [] refl refl in
       (λ x. let (p, e) = to (refused-by (first row) x) in (p.0, p.1.0, e), λ (x, y, e). ap (λ (o : Option Error). or_else o Reply.done) (of ((x, (y, tt)), e)))

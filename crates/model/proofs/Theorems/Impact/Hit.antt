@@ -1,7 +1,7 @@
 -- The list: ascending; who is on it and who is not, in the request's words and in what leave_if_changed and check_iteration answer; the live link of each that is.
-use Rattle.model.proofs.Logic.{Bool, List, List-as-Memᴰ, Option, ◌↔◌, ◌∙◌, ◌≡◌, ◌≤◌, ap, cond, eq-eqb, eqb-true, false, length, ne_eqb, none, not, refl, some, subst, sym, true, ℕ}
+use Rattle.model.proofs.Logic.{Bool, List, List-as-Memᴰ, Option, ◌↔◌, ◌∙◌, ◌≡◌, ◌≤◌, ap, cond, eq-eqb, eqb-true, false, length, ne_eqb, none, refl, some, subst, sym, true, ℕ}
 use Rattle.model.specs.{Impact.affected, Impact.hit_tests, Impact.is_hit, Lifecycle.leave_tests, Lifecycle.left, Lifecycle.phase_at, Lifecycle.relies, Lists.any, Lists.is_none, Lists.keep, Observers.ids, Records.binding_in, Records.consumer_in, Records.dependency, Records.is_running, Records.port_in, Records.port_of, Records.provider_in, Records.provision, Resolution.target, Resolution.target_list, Sizes.Sizes, Soundness.sound, Tables.Tables, Tables.present, declared.Binding.Binding, declared.Port.Port, declared.records.Link.Link}
-use Rattle.model.proofs.{Laws.Ascending.Ascending, Laws.Ascending.ascending-few, Laws.Ascending.ascending_keep, Laws.Booleans.Each, Laws.Booleans.and_i, Laws.Booleans.clash, Laws.Booleans.each, Laws.Booleans.f_not, Laws.Booleans.not_f, Laws.Booleans.not_t, Laws.Booleans.of_each, Laws.Facts.Linked, Laws.Facts.LiveOk, Laws.Facts.facts, Laws.Lists.any-in, Laws.Lists.in_keep, Laws.Lists.is_some, Laws.Lists.keep-in, Laws.Lists.never, Laws.Phases.running-installed, Laws.Refusals.Passed, Laws.Refusals.passed, Laws.Resolution.Resolved, Laws.Resolution.Targeted, Laws.Resolution.target-needed, Laws.Resolution.target-resolved, Laws.Resolution.targeted, Theorems.Impact.Target.after_leave, Theorems.Impact.Target.bound_to, Theorems.Impact.Target.target_left, Theorems.Upstream.Identities.ids-ascend, Theorems.Upstream.Identities.ids-present}
+use Rattle.model.proofs.{Laws.Ascending.Ascending, Laws.Ascending.ascending-few, Laws.Ascending.ascending_keep, Laws.Booleans.Each, Laws.Booleans.and_i, Laws.Booleans.clash, Laws.Booleans.each, Laws.Booleans.f_not, Laws.Booleans.not_f, Laws.Booleans.not_t, Laws.Booleans.of_each, Laws.Facts.Linked, Laws.Facts.LiveOk, Laws.Facts.facts, Laws.Lists.any-in, Laws.Lists.in_keep, Laws.Lists.is_some, Laws.Lists.keep-in, Laws.Lists.never, Laws.Phases.running-installed, Laws.Refusals.Passed, Laws.Resolution.Resolved, Laws.Resolution.Targeted, Laws.Resolution.target-needed, Laws.Resolution.target-resolved, Laws.Resolution.targeted, Theorems.Impact.Target.after_leave, Theorems.Impact.Target.bound_to, Theorems.Impact.Target.target_left, Theorems.Upstream.Identities.ids-ascend, Theorems.Upstream.Identities.ids-present}
 
 pub is-none : {A : Type 0} (o : Option A) → is_none o ≡ true → o ≡ none
 is-none none h = refl

@@ -1,5 +1,5 @@
 -- On sound tables the list told from the links: a component that runs has a target exactly if it is not retired and every live link of it has an Active provider.
-use Rattle.model.proofs.Logic.{Bool, List, List-as-Memᴰ, List·getD-eq-default, Memᴰ·cast, ◌&&◌, ◌+◌, ◌<◌, ◌↔◌, ◌∙◌, ◌≡◌, ap, arith, dec_lt, eq-eqb, eqb, eqb-true, false, get_or, length, none, not, refl, some, subst, sym, true, ℕ}
+use Rattle.model.proofs.Logic.{Bool, List, List-as-Memᴰ, List·getD-eq-default, Memᴰ·cast, ◌&&◌, ◌+◌, ◌<◌, ◌↔◌, ◌∙◌, ◌≡◌, ap, arith, dec_lt, eq-eqb, eqb, eqb-true, false, get_or, length, none, refl, some, subst, sym, true, ℕ}
 use Rattle.model.specs.{Impact.affected, Impact.is_provider, Impact.is_reliant, Impact.is_unserved, Impact.linked, Impact.reliant_tests, Lifecycle.leave_tests, Lifecycle.phase_at, Lifecycle.relies, Lists.places, Records.binding_in, Records.consumer_in, Records.dependency, Records.is_running, Records.port_in, Records.port_of, Records.provider_in, Records.provision, Resolution.Target, Resolution.bind_ports, Resolution.dependency_ports, Resolution.is_live_link_of, Resolution.resolve, Resolution.target, Resolution.target_list, Sizes.Sizes, Soundness.apart, Soundness.sound, Tables.Tables, Tables.node_at, Tables.present, Tables.providing, declared.Binding.Binding, declared.Port.Port, declared.Resolution.Resolution, declared.records.Link.Link}
 use Rattle.model.proofs.{Laws.Ascending.ascending_same, Laws.Ascending.at_places, Laws.Ascending.places-ascend, Laws.Ascending.places-at, Laws.Booleans.Each, Laws.Booleans.and_i, Laws.Booleans.and_l, Laws.Booleans.and_r, Laws.Booleans.clash, Laws.Booleans.each, Laws.Booleans.f_not, Laws.Booleans.not_f, Laws.Booleans.not_t, Laws.Booleans.of_each, Laws.Committed.live-link_of, Laws.Facts.Linked, Laws.Facts.LiveOk, Laws.Facts.Sound, Laws.Facts.facts, Laws.Lists.any-in, Laws.Lists.at_in, Laws.Lists.in_any, Laws.Lists.in_at, Laws.Lists.in_keep, Laws.Lists.is_some, Laws.Lists.never, Laws.Lists.onward-at, Laws.Nodes.present-lt, Laws.Order.of_apart, Laws.Phases.active-is, Laws.Phases.running-installed, Laws.Refusals.Passed, Laws.Resolution.FirstUnresolved, Laws.Resolution.Resolved, Laws.Resolution.Targeted, Laws.Resolution.bind_missing, Laws.Resolution.bind_something, Laws.Resolution.target-bound, Laws.Resolution.target-covers, Laws.Resolution.target-resolved, Laws.Resolution.targeted, Laws.Resolution.wants_in, Theorems.Impact.Hit.Targets, Theorems.Impact.Hit.affected-ascend, Theorems.Impact.Hit.affected-is, Theorems.Impact.Hit.affected-relies, Theorems.Impact.Hit.binds_hit, Theorems.Impact.Hit.not_none, Theorems.Impact.Hit.one_provider, Theorems.Impact.Target.binds_to, Theorems.Points.node_at_lem, Theorems.Resolution.resolve-exactly}
 

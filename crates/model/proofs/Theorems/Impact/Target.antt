@@ -65,7 +65,7 @@ joined-list p (Resolution.NotActive o) t = refl
 joined-list p Resolution.NoOwner t = refl
 
 joined-left : (id : ℕ) (p : Port) (r : Resolution) (t : Option (List Binding)) → joined_list p (unprovided id r) (after_leave id t) ≡ after_leave id (joined_list p r t)
-unfolding after_leave any bound_to
+unfolding after_leave bound_to
 joined-left id p (Resolution.NotActive o) t = refl
 joined-left id p Resolution.NoOwner t = refl
 joined-left id p (Resolution.Provider o) none = go (eqb o id)
@@ -82,7 +82,7 @@ joined-left id p (Resolution.Provider o) (some bs) = go (eqb o id) (any (bound_t
 
 bind_left : (f g : Port → Resolution) (id : ℕ) → ((p : Port) → g p ≡ unprovided id (f p)) → (ps : List Port) → target_list (bind_ports g ps) ≡ after_leave id (target_list (bind_ports f ps))
 unfolding bind_ports
-bind_left f g id h [] = unfold after_leave any in refl
+bind_left f g id h [] = unfold after_leave in refl
 bind_left f g id h (p ∷ ps) =
     joined-list p (g p) (bind_ports g ps) ∙ (λ i. joined_list p (h p i) (bind_left f g id h ps i)) ∙ joined-left id p (f p) (target_list (bind_ports f ps))
     ∙ ap (after_leave id) (sym (joined-list p (f p) (bind_ports f ps)))

@@ -1,6 +1,6 @@
 -- When a command is accepted, in the words of the original's contracts.
 use Rattle.model.proofs.Logic.{Bool, List-as-Memᴰ, Option, [], ◌&&◌, ◌+◌, ◌<◌, ◌||◌, ◌↔◌, ◌∙◌, ◌∷◌, ◌≡◌, ◌≤◌, ◌⊎◌, ap, arith, eq-eqb, eqb, eqb-true, false, inl, inr, le-ltb, leb-false, leb-true, length, ltb-false, none, not, refl, some, sym, true, ℕ}
-use Rattle.model.specs.{Commands.Command, Commands.settle, Commands.step, Insertion.check_insert, Insertion.insert_tests, Insertion.inserted, Insertion.parent_present, Insertion.parent_retired, Interface.distinct, Interface.listed, Interface.taken, Interface.too_long, Lifecycle.begin_cleanup_tests, Lifecycle.check_iteration, Lifecycle.finish_cleanup_tests, Lifecycle.finished, Lifecycle.iteration_tests, Lifecycle.leave_if_changed_tests, Lifecycle.leave_tests, Lifecycle.phase_at, Lifecycle.relies, Lifecycle.remove_tests, Lists.all, Lists.any, Lists.is_none, Observers.cleanup_started, Records.has_parent, Records.is_child_of, Records.is_inactive, Records.is_loading, Records.is_running, Records.is_unloading, Records.parent_in, Records.provider_in, Refusals.Reply, Refusals.accepted, Refusals.first, Refusals.or_else, Resolution.target, Resolution.target_list, Sizes.Sizes, Sizes.list_limit, Soundness.sound, Tables.Tables, Tables.node_at, Tables.present, declared.Error.Error, declared.Parent.Parent, declared.Port.Port, declared.PortList.PortList, declared.records.Link.Link, declared.records.Node.Node}
+use Rattle.model.specs.{Commands.Command, Commands.settle, Commands.step, Insertion.check_insert, Insertion.insert_tests, Insertion.inserted, Insertion.parent_present, Insertion.parent_retired, Interface.distinct, Interface.listed, Interface.taken, Interface.too_long, Lifecycle.begin_cleanup_tests, Lifecycle.check_iteration, Lifecycle.finish_cleanup_tests, Lifecycle.finished, Lifecycle.iteration_tests, Lifecycle.leave_if_changed_tests, Lifecycle.leave_tests, Lifecycle.phase_at, Lifecycle.relies, Lifecycle.remove_tests, Lists.any, Lists.is_none, Observers.cleanup_started, Records.has_parent, Records.is_child_of, Records.is_inactive, Records.is_loading, Records.is_running, Records.is_unloading, Records.parent_in, Records.provider_in, Refusals.Reply, Refusals.accepted, Refusals.first, Refusals.or_else, Resolution.target, Resolution.target_list, Sizes.Sizes, Sizes.list_limit, Soundness.sound, Tables.Tables, Tables.node_at, Tables.present, declared.Error.Error, declared.Parent.Parent, declared.Port.Port, declared.PortList.PortList, declared.records.Link.Link, declared.records.Node.Node}
 use Rattle.model.proofs.{Laws.Booleans.and_i, Laws.Booleans.and_l, Laws.Booleans.and_r, Laws.Booleans.clash, Laws.Booleans.not_f, Laws.Booleans.not_t, Laws.Booleans.or_f_l, Laws.Booleans.or_f_r, Laws.Pieces.refuted, Laws.Lists.any-in, Laws.Lists.in_at, Laws.Lists.none_in, Laws.Phases.loading_running, Laws.Phases.running-installed, Laws.Refusals.Passed, Laws.Refusals.skip, Laws.Refusals.step-cases, Theorems.Points.at-node, Theorems.UpdateNode.no_child, Theorems.Upstream.Frames.bindings-kept, Theorems.Upstream.Observed.Coherent, Theorems.Upstream.Observed.coherent_target, Theorems.Upstream.Replies.accepts, Theorems.Upstream.Replies.never-refused_with}
 
 -- ---- retire, leave, leave_if_changed
@@ -21,7 +21,6 @@ module _ (S : Sizes) (T : Tables) (id : ℕ) where
   leave-accepts = (λ h. let p : Passed (leave_tests T id) = (accepts S T (Command.leave id)).0 h in (not_f _ p.0, not_f _ p.1.0), λ (t, r). (accepts S T (Command.leave id)).1 (rw t, (rw r, tt)))
 
   pub leave-not-changed : (step S T (Command.leave id)).reply ≡ Reply.refused Error.Changed → ⊥
-  unfolding all
   leave-not-changed = never-refused_with S T (Command.leave id) Error.Changed refl
 
   abbrev leaving_if_changed : Command

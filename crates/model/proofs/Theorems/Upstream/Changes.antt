@@ -1,6 +1,6 @@
 -- Declarations and links after a command: what an interface command adds and drops, what finish_cleanup and the compactions leave.
 use Rattle.model.proofs.Logic.{Bool, List, List-as-Memᴰ, List·Memᴰ·append-cases, List·Memᴰ·eq-of-singleton, List·Memᴰ·head, Memᴰ·append-left, Memᴰ·append-right, Memᴰ·cast, [], ◌&&◌, ◌++◌, ◌+◌, ◌<◌, ◌||◌, ◌↔◌, ◌∙◌, ◌∷◌, ◌≡◌, ◌⊎◌, ap, arith, cond, eq-eqb, eqb, false, inl, inr, length, lt-ltb, ltb, ltb-true, map, not, refl, sym, true, ℕ, ⊎_elim, subst}
-use Rattle.model.specs.{Commands.Command, Commands.step, Commands.tests, Compaction.bindings_compacted, Compaction.bindings_removed, Compaction.declarations_compacted, Compaction.declarations_removed, Insertion.new_declarations, Interface.configure_node_tests, Interface.dependencies_configured, Interface.distinct, Interface.listed, Interface.own, Interface.relies_on, Interface.remaining, Interface.remains, Interface.too_long, Lifecycle.phase_at, Lists.all, Observers.binding_records, Observers.declaration_records, Observers.provision_reserved, Records.consumer_in, Records.dead_for, Records.declaration_of, Records.declared_port, Records.dependency, Records.is_inactive, Records.is_live, Records.is_running, Records.is_unloading, Records.owner_in, Records.port_in, Records.provider_in, Records.provision, Refusals.Reply, Refusals.accepted, Resolution.committed, Resolution.is_dependency_of, Sizes.Sizes, Soundness.declares, Soundness.is_declaration, Soundness.sound, Tables.Tables, Tables.node_at, Tables.present, declared.Error.Error, declared.Parent.Parent, declared.Phase.Phase, declared.Port.Port, declared.PortList.PortList, declared.records.Declaration.Declaration, declared.records.Link.Link, declared.records.Node.Node, Records.same_port}
+use Rattle.model.specs.{Commands.Command, Commands.step, Commands.tests, Compaction.bindings_compacted, Compaction.bindings_removed, Compaction.declarations_compacted, Compaction.declarations_removed, Insertion.new_declarations, Interface.configure_node_tests, Interface.dependencies_configured, Interface.distinct, Interface.listed, Interface.own, Interface.relies_on, Interface.remaining, Interface.remains, Interface.too_long, Lifecycle.phase_at, Observers.binding_records, Observers.declaration_records, Observers.provision_reserved, Records.consumer_in, Records.dead_for, Records.declaration_of, Records.declared_port, Records.dependency, Records.is_inactive, Records.is_live, Records.is_running, Records.is_unloading, Records.owner_in, Records.port_in, Records.provider_in, Records.provision, Refusals.Reply, Refusals.accepted, Resolution.committed, Resolution.is_dependency_of, Sizes.Sizes, Soundness.declares, Soundness.is_declaration, Soundness.sound, Tables.Tables, Tables.node_at, Tables.present, declared.Error.Error, declared.Parent.Parent, declared.Phase.Phase, declared.Port.Port, declared.PortList.PortList, declared.records.Declaration.Declaration, declared.records.Link.Link, declared.records.Node.Node, Records.same_port}
 use Rattle.model.proofs.{Laws.Booleans.and_i, Laws.Booleans.and_l, Laws.Booleans.clash, Laws.Booleans.f_not, Laws.Booleans.not_f, Laws.Booleans.not_t, Laws.Committed.committed-compact, Laws.Committed.committed-dead, Laws.Pieces.refuted, Laws.Facts.declaration_passes, Laws.Facts.declares-in, Laws.Facts.facts, Laws.Facts.in_declares, Laws.Facts.is-declaration, Laws.Facts.port-same, Laws.Lists.in_keep, Laws.Lists.in_map, Laws.Lists.keep-in, Laws.Lists.length-keep, Laws.Lists.map-in, Laws.Lists.none_in, Laws.Live.any-kept, Laws.Refusals.Passed, Laws.Refusals.refused-ahead, Laws.Refusals.refused-at, Laws.Refusals.step_keeps, Theorems.FinishCleanup.dead-live, Theorems.Interface.configured-count, Theorems.Upstream.Replies.accepted-step, Theorems.Upstream.Replies.accepts, Theorems.Upstream.Replies.refuses}
 
 -- ---- declare_provision
@@ -87,7 +87,6 @@ module _ (S : Sizes) (T : Tables) (id : ℕ) (l : PortList) where
   pub configure-capacity :
       ((step S T configuring).reply ≡ Reply.refused Error.Capacity)
       ↔ ((too_long l ≡ true) ⊎ (Passed (configure_node_tests node) × (S.declarations < length (dependencies_configured T id l).declarations)))
-  unfolding all
   configure-capacity =
       let r = refuses S T configuring Error.Capacity in
       let long = refused-ahead (too_long l) Error.Capacity _ in

@@ -1,6 +1,6 @@
 -- The refusals of check_insert: 9, 1, 3 and 5 exactly where the row puts them.
 use Rattle.model.proofs.Logic.{Bool, Option, [], ◌++◌, ◌+◌, ◌||◌, ◌↔◌, ◌∷◌, ◌≡◌, ◌⊎◌, ap, arith, false, inl, inr, leb, length, ltb, none, not, refl, some, true, ℕ, ⊎_elim}
-use Rattle.model.specs.{Insertion.check_insert, Insertion.clashes, Insertion.insert_tests, Insertion.parent_present, Insertion.parent_retired, Interface.listed, Interface.too_long, Lists.all, Refusals.Reply, Refusals.Tests, Refusals.first, Refusals.or_else, Sizes.Sizes, Tables.Tables, declared.Error.Error, declared.Parent.Parent, declared.PortList.PortList}
+use Rattle.model.specs.{Insertion.check_insert, Insertion.clashes, Insertion.insert_tests, Insertion.parent_present, Insertion.parent_retired, Interface.listed, Interface.too_long, Refusals.Reply, Refusals.Tests, Refusals.first, Refusals.or_else, Sizes.Sizes, Tables.Tables, declared.Error.Error, declared.Parent.Parent, declared.PortList.PortList}
 use Rattle.model.proofs.{Laws.Refusals.refused-ahead, Laws.Refusals.refused-at}
 
 -- what a check replies, by its row
@@ -38,19 +38,19 @@ module _ (S : Sizes) (T : Tables) (q : Parent) (ds ps : PortList) where
   behind = (clashing, Error.Conflict) ∷ (exceeded, Error.Capacity) ∷ []
 
   pub check_insert_unknown : (check_insert S T q ds ps ≡ Reply.refused Error.Unknown) ↔ ((long ≡ false) × (full ≡ false) × (absent ≡ true))
-  unfolding check_insert all
+  unfolding check_insert
   check_insert_unknown =
       let r = refused-at front absent Error.Unknown ((retired, Error.Retired) ∷ behind) refl refl in
       (λ h. let ((l, (f, _)), o) = r.0 ((or_else_lem refusal Error.Unknown).0 h) in (l, f, o), λ (l, f, o). (or_else_lem refusal Error.Unknown).1 (r.1 ((l, (f, tt)), o)))
 
   pub check_insert_retired : (check_insert S T q ds ps ≡ Reply.refused Error.Retired) ↔ ((long ≡ false) × (full ≡ false) × (absent ≡ false) × (retired ≡ true))
-  unfolding check_insert all
+  unfolding check_insert
   check_insert_retired =
       let r = refused-at (front ++ ((absent, Error.Unknown) ∷ [])) retired Error.Retired behind refl refl in
       (λ h. let ((l, (f, (o, _))), t) = r.0 ((or_else_lem refusal Error.Retired).0 h) in (l, f, o, t), λ (l, f, o, t). (or_else_lem refusal Error.Retired).1 (r.1 ((l, (f, (o, tt))), t)))
 
   pub check_insert_conflict : (check_insert S T q ds ps ≡ Reply.refused Error.Conflict) ↔ ((long ≡ false) × (full ≡ false) × (absent ≡ false) × (retired ≡ false) × (clashing ≡ true))
-  unfolding check_insert all
+  unfolding check_insert
   check_insert_conflict =
       let r = refused-at (front ++ ((absent, Error.Unknown) ∷ (retired, Error.Retired) ∷ [])) clashing Error.Conflict ((exceeded, Error.Capacity) ∷ []) refl refl in
       (λ h. let ((l, (f, (o, (t, _)))), c) = r.0 ((or_else_lem refusal Error.Conflict).0 h) in (l, f, o, t, c), λ (l, f, o, t, c). (or_else_lem refusal Error.Conflict).1 (r.1 ((l, (f, (o, (t, tt)))), c)))
@@ -61,7 +61,6 @@ module _ (S : Sizes) (T : Tables) (q : Parent) (ds ps : PortList) where
 
   -- the tests behind the first two, of which the last alone gives 9
   sum-refuses : (first ((absent, Error.Unknown) ∷ (retired, Error.Retired) ∷ behind) ≡ some Error.Capacity) ↔ ((absent ≡ false) × (retired ≡ false) × (clashing ≡ false) × (exceeded ≡ true))
-  unfolding all
   sum-refuses =
       let r = refused-at ((absent, Error.Unknown) ∷ (retired, Error.Retired) ∷ (clashing, Error.Conflict) ∷ []) exceeded Error.Capacity [] refl refl in
       (λ h. let ((o, (t, (c, _))), s) = r.0 h in (o, t, c, s), λ (o, t, c, s). r.1 ((o, (t, (c, tt))), s))

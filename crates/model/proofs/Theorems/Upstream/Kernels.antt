@@ -1,7 +1,7 @@
 -- From tables to kernels: what a command hands back of a sound kernel is sound, and its tables and its reply are those of the step.
-use Rattle.model.proofs.Logic.{◌≡◌, ap, false, refl, true}
+use Rattle.model.proofs.Logic.{◌≡◌, ap, false, true}
 use Rattle.model.proofs.{Laws.Refusals.step-cases, Theorems.Commands.step-sound, Theorems.Kernels.asked-sound, Theorems.Kernels.commanded-accepted, Theorems.Kernels.commanded-refused, Theorems.Layouts.layout_sound, Theorems.Layouts.read_back, Theorems.Layouts.tables-sound}
-use Rattle.model.specs.{Commands.Command, Commands.Step, Commands.step, Kernels.Commanded, Kernels.commanded, Layouts.Layout, Layouts.lay_out, Layouts.sound_kernel, Layouts.tables_of, Refusals.Reply, Refusals.accepted, Sizes.Sizes, Soundness.sound, Tables.Tables, declared.Error.Error}
+use Rattle.model.specs.{Commands.Command, Commands.step, Kernels.Commanded, Kernels.commanded, Layouts.Layout, Layouts.sound_kernel, Layouts.tables_of, Refusals.accepted, Sizes.Sizes, Soundness.sound}
 
 module _ (S : Sizes) (k : Layout) (c : Command) (h : sound_kernel S k ≡ true) where
   pub commanded-tables : tables_of (commanded S k c).kernel ≡ (step S (tables_of k) c).tables

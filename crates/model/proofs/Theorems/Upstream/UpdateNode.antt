@@ -1,6 +1,6 @@
 -- The original's clauses about update_node, of the definition `update_node`.
 use Rattle.model.proofs.Logic.{List-as-Memᴰ, Option, ◌↔◌, ◌≡◌, and-false, ap, eqb, false, length, length-set, ne_eqb, none, not, refl, set, some, sym, true, ℕ}
-use Rattle.model.specs.{Commands.Step, Commands.settle, Commands.update_node, Lists.all, Lists.any, Records.consumer_in, Records.is_child_of, Records.is_inactive, Records.is_unloading, Records.parent_in, Records.provider_in, Refusals.Reply, Refusals.accepted, Refusals.first, Refusals.number, Soundness.safety_wf, Tables.Tables, Tables.node_at, Tables.present, Tables.with_node, UpdateNode.blocks, UpdateNode.update_tests, declared.Error.Error, declared.Parent.Parent, declared.records.Link.Link, declared.records.Node.Node}
+use Rattle.model.specs.{Commands.Step, Commands.settle, Commands.update_node, Lists.any, Records.consumer_in, Records.is_child_of, Records.is_inactive, Records.is_unloading, Records.parent_in, Records.provider_in, Refusals.Reply, Refusals.accepted, Refusals.first, Refusals.number, Soundness.safety_wf, Tables.Tables, Tables.node_at, Tables.present, Tables.with_node, UpdateNode.blocks, UpdateNode.update_tests, declared.Error.Error, declared.Parent.Parent, declared.records.Link.Link, declared.records.Node.Node}
 use Rattle.model.proofs.{Laws.Booleans.and_l, Laws.Booleans.clash, Laws.Pieces.refuted, Laws.Facts.safe_of, Laws.Lists.any-in, Laws.Nodes.at_other, Laws.Phases.unloading_installed, Laws.Refusals.Passed, Laws.Refusals.first-among, Laws.Refusals.of_passed, Laws.Refusals.passed, Laws.Update.calm, Theorems.UpdateNode.no_child, Theorems.UpdateNode.update_accepts}
 
 -- no live link is so
@@ -26,7 +26,6 @@ module _ (T : Tables) (id : ℕ) (n : Node) where
   update_done = (updated-cases (λ o. accepted o.reply ≡ true → Passed (update_tests T id n)) (λ e h q. clash false q refl) (λ p q. p), λ p. rw (of_passed (update_tests T id n) p))
 
   pub update_not_changed : (update_node T id n).reply ≡ Reply.refused Error.Changed → ⊥
-  unfolding all
   update_not_changed = updated-cases (λ o. o.reply ≡ Reply.refused Error.Changed → ⊥)
       (λ e h q. let d : e ≡ Error.Changed = cc in clash {A = ⊥} false (first-among (update_tests T id n) Error.Changed (λ y. not (eqb (number y) (number Error.Changed))) refl (rw d at h)) refl)
       (λ p q. clash {A = ⊥} true refl (sym (ap accepted (sym q))))

@@ -1,47 +1,31 @@
 -- `player::commands::play` meets its contract: the turns so far are those of the log's first commands.
-use Rattle.model.proofs.Logic.{List, ◌+◌, ◌-◌, ◌<◌, ◌∙◌, ◌≡◌, ◌≤◌, ap, arith, drop, get_or, length, length-drop, length-set, refl, suc, sym, take, ℕ}
+use Rattle.std.proofs.Common.{inl, inr, rules}
+use Rattle.model.proofs.Logic.{List, ◌+◌, ◌-◌, ◌<◌, ◌∙◌, ◌≡◌, ap, arith, drop, get_or, length, length-set, refl, suc, sym, ℕ}
 use Rattle.model.specs.{Commands.Command, declared.Parent.Parent, declared.Port.Port}
 use Rattle.player.specs.{Log.operand_length, Log.parent_of, Log.port_at, Played.Item, Played.State, Played.item, Played.meanings}
-use Rattle.player.proofs.{Laws.Playing.playing-last, Laws.Playing.playing_over, Laws.Playing.playing_start, Laws.Playing.playing-steps, Laws.Playing.state, Laws.Runs.ended, Laws.Turns.Steps, Laws.Turns.compaction-done, Laws.Turns.cut-turn, Laws.Turns.dependency-steps, Laws.Turns.insert-done, Laws.Turns.insert-kept, Laws.Turns.listing-done, Laws.Turns.plain_done, Laws.Turns.plain-kept, Laws.Turns.provision-steps, Laws.Turns.sixteenth, Laws.Turns.unknown-turn, Laws.Turns.whole_item}
+use Rattle.player.proofs.{Laws.Lent.all_there, Laws.Lent.behind-lent, Laws.Lent.is_known, Laws.Lent.is_not-known, Laws.Lent.lent-is, Laws.Lent.short, Laws.Playing.playing-last, Laws.Playing.playing_over, Laws.Playing.playing_start, Laws.Playing.playing-steps, Laws.Playing.state, Laws.Runs.ended, Laws.Turns.Steps, Laws.Turns.compaction-done, Laws.Turns.cut-turn, Laws.Turns.dependency-steps, Laws.Turns.insert-done, Laws.Turns.listing-done, Laws.Turns.plain_done, Laws.Turns.provision-steps, Laws.Turns.refused-kept, Laws.Turns.sixteenth, Laws.Turns.unknown-turn, Laws.Turns.whole_item}
 use Rattle.player.proofs.commands.play.Goals as goal
-use Rattle.player.proofs.commands.play.Goals.{in-1, in-2, in-3+then-answer-eq0, in-3+else-answer-eq0, in-4+then-answer-eq0-2, in-4+else-answer-eq0-2, in-5, in-6, in-7, in-8, in-9, in-10, in-11, in-12, in-13, in-14, in-15, in_default}
+use Rattle.player.proofs.commands.play.Goals.{in-1, in-2, in-3, then-is_ok, else-is_ok, in-4, then-is_ok-2, else-is_ok-2, in-5, in-6, in-7, in-8, in-9, in-10, in-11, in-12, in-13, in-14, in-15, in_default-byte, Joined-byte}
 
 pub loop-at-init : goal.loop-at-init
 loop-at-init c = (omega arith, omega arith, playing_start _ _ _)
 
--- the operands that are lent
-abbrev lent : List ℕ → ℕ → ℕ → List ℕ
-lent log at size = take (at + 1 + size - (at + 1)) (drop (at + 1) log)
-
-module _ (log : List ℕ) (at size : ℕ) (e : size ≡ operand_length (get_or log at 0)) where
-  all_there : size < length log - at → operand_length (get_or log at 0) ≤ length (drop (suc at) log)
-  all_there l = omega (arith, length-drop (suc at) log)
-
-  short : at < length log → length log - at ≤ size → length (drop (suc at) log) < operand_length (get_or log at 0)
-  short h l = omega (arith, length-drop (suc at) log)
-
-  lent-is : take (operand_length (get_or log at 0)) (drop (suc at) log) ≡ lent log at size
-  lent-is =
-      let n : operand_length (get_or log at 0) ≡ at + 1 + size - (at + 1) = omega arith in
-      let place : suc at ≡ at + 1 = omega arith in
-      ap (λ (n : ℕ). take n (drop (suc at) log)) n ∙ ap (λ (m : ℕ). take (at + 1 + size - (at + 1)) (drop m log)) place
-
 -- where the loop's head stands
-abbrev at : goal.Joined-byte → State
+abbrev at : Joined-byte → State
 at c = state c.loop-at.kernel c.loop-at.dependencies c.loop-at.provisions c.loop-at.at
 
 -- the byte there, and those behind it
-abbrev byte : goal.Joined-byte → ℕ
+abbrev byte : Joined-byte → ℕ
 byte c = get_or c.args.log.now c.loop-at.at 0
 
-abbrev behind : goal.Joined-byte → List ℕ
+abbrev behind : Joined-byte → List ℕ
 behind c = drop (suc c.loop-at.at) c.args.log.now
 
-abbrev operands : goal.Joined-byte → List ℕ
-operands c = lent c.args.log.now c.loop-at.at c.length_of-length.result
+abbrev operands : Joined-byte → List ℕ
+operands c = c.in-Some.operands.now
 
 -- the turn that the arm of this byte made
-arm : (c : goal.Joined-byte) → Steps (at c) (byte c) (behind c) c.match-byte.kernel c.match-byte.dependencies c.match-byte.provisions c.match-byte.detail c.match-byte.answer
+arm : (c : Joined-byte) → Steps (at c) (byte c) (behind c) c.match-byte.kernel c.match-byte.dependencies c.match-byte.provisions c.match-byte.detail c.match-byte.answer
 arm c =
     let s : State = at c in
     let b : ℕ = byte c in
@@ -49,9 +33,10 @@ arm c =
     let os : List ℕ = operands c in
     let id : ℕ = c.identity-id.result in
     let size = c.length_of-length.ensures in
+    let known = is_known _ c.if-not-is_command.ensures in
     -- the item of the byte whose number is n
     let meant : (n : ℕ) → b ≡ n → item s b rest ≡ get_or (meanings s os) (n - 1) Item.unknown =
-    λ n e. whole_item s b rest c.if-byte.false (all_there c.args.log.now c.loop-at.at _ size c.if-log-at.false) (lent-is c.args.log.now c.loop-at.at _ size) n e in
+    λ n e. whole_item s b rest known (all_there c.args.log.now c.loop-at.at _ size c.in-Some.ensures.lookup.0.1) (lent-is c.args.log.now c.loop-at.at _ size c.in-Some.ensures.lookup.0.2) n e in
     -- of the identity that was read
     let of : (f : ℕ → Item) → f (get_or os 0 0) ≡ f id = λ f. ap f (sym c.identity-id.ensures) in
     let insert : Parent → Command = λ q. Command.insert q s.dependencies s.provisions in
@@ -64,27 +49,29 @@ arm c =
       | in-1 w ↦
           dependency-steps s b rest w.port_at.result
           (meant 1 w.in-1.is ∙ ap Item.dependency (sym w.port_at.ensures))
-          w.kernel-is (w.dependencies-is ∙ w.added-dependencies.ensures) w.provisions-is w.detail-is (w.answer-is ∙ w.addition-answer.ensures)
+          w.kernel-is (w.dependencies-is ∙ w.add.ensures.added) w.provisions-is w.detail-is (w.answer-is ∙ w.answer_number-answer.ensures ∙ w.add.ensures.answer)
       | in-2 w ↦
           provision-steps s b rest w.port_at-in-2.result
           (meant 2 w.in-2.is ∙ ap Item.provision (sym w.port_at-in-2.ensures))
-          w.kernel-is w.dependencies-is (w.provisions-is ∙ w.added-provisions.ensures) w.detail-is (w.answer-is ∙ w.addition-answer-in-2.ensures)
-      | in-3+then-answer-eq0 w ↦
-          insert-done s b rest (insert w.parent-parent.result) (λ T. refl) w.insert-outcome.ensures
-          (w.answer-is ∙ w.insert_answer_number-answer.ensures) (w.detail-is ∙ w.issued-detail.ensures) (inserts w.in-3.is w.parent-parent.result w.parent-parent.ensures)
-          w.kernel-is w.dependencies-is w.provisions-is
-      | in-3+else-answer-eq0 w ↦
-          insert-kept s b rest (insert w.parent-parent.result) (λ T. refl) w.insert-outcome.ensures
-          (w.answer-is ∙ w.insert_answer_number-answer.ensures) (w.detail-is ∙ w.issued-detail.ensures) (inserts w.in-3.is w.parent-parent.result w.parent-parent.ensures)
-          (λ z. w.if-answer-eq0.false (sym w.answer-is ∙ z)) w.kernel-is w.dependencies-is w.provisions-is
-      | in-4+then-answer-eq0-2 w ↦
+          w.kernel-is w.dependencies-is (w.provisions-is ∙ w.add-in-2.ensures.added) w.detail-is (w.answer-is ∙ w.answer_number-answer-in-2.ensures ∙ w.add-in-2.ensures.answer)
+      | in-3 w ↦
+          let kernel : c.match-byte.kernel ≡ w.insert-outcome.result.kernel =
+          w.kernel-is ∙ (elim w.if-is_ok.branch [
+            | then-is_ok w' ↦ w'.kernel-is
+            | else-is_ok w' ↦ w'.kernel-is ∙ refused-kept _ w.insert-outcome.ensures.1.2 (sym w.is_ok.ensures.value ∙ w'.if-is_ok.false)
+          ]) in
+          insert-done s b rest (insert w.parent.result) (λ T. refl) w.insert-outcome.ensures
+          (w.answer-is ∙ w.answer_number-answer-in-3.ensures) (w.detail-is ∙ w.detail_of-detail.ensures) (inserts w.in-3.is w.parent.result w.parent.ensures)
+          kernel w.dependencies-is w.provisions-is
+      | in-4 w ↦
+          let kernel : c.match-byte.kernel ≡ w.begin-outcome.result.kernel =
+          w.kernel-is ∙ (elim w.if-is_ok-2.branch [
+            | then-is_ok-2 w' ↦ w'.kernel-is
+            | else-is_ok-2 w' ↦ w'.kernel-is ∙ refused-kept _ w.begin-outcome.ensures.1.2 (sym w.is_ok-in-4.ensures.value ∙ w'.if-is_ok-2.false)
+          ]) in
           plain_done s b rest (Command.begin id) (λ T. refl) w.begin-outcome.ensures
-          (w.answer-is ∙ w.answer_number-answer.ensures) w.detail-is (meant 4 w.in-4.is ∙ of (λ n. Item.plain (Command.begin n)))
-          w.kernel-is w.dependencies-is w.provisions-is
-      | in-4+else-answer-eq0-2 w ↦
-          plain-kept s b rest (Command.begin id) (λ T. refl) w.begin-outcome.ensures
-          (w.answer-is ∙ w.answer_number-answer.ensures) w.detail-is (meant 4 w.in-4.is ∙ of (λ n. Item.plain (Command.begin n)))
-          (λ z. w.if-answer-eq0-2.false (sym w.answer-is ∙ z)) w.kernel-is w.dependencies-is w.provisions-is
+          (w.answer-is ∙ w.answer_number-answer-in-4.ensures) w.detail-is (meant 4 w.in-4.is ∙ of (λ n. Item.plain (Command.begin n)))
+          kernel w.dependencies-is w.provisions-is
       | in-5 w ↦
           plain_done s b rest (Command.finish id) (λ T. refl) w.finish-outcome.ensures
           (w.answer-is ∙ w.answer_number-answer-in-5.ensures) w.detail-is (meant 5 w.in-5.is ∙ of (λ n. Item.plain (Command.finish n)))
@@ -115,11 +102,11 @@ arm c =
           w.kernel-is w.dependencies-is w.provisions-is
       | in-12 w ↦
           compaction-done s b rest Command.compact_bindings (λ T. refl) w.compact_bindings-outcome.ensures
-          (w.answer-is ∙ w.answer_number-answer-in-12.ensures) w.detail-is (meant 12 w.in-12.is)
+          (w.answer-is ∙ w.answer_number-answer-in-12.ensures) (w.detail-is ∙ w.detail_of-detail-in-12.ensures) (meant 12 w.in-12.is)
           w.kernel-is w.dependencies-is w.provisions-is
       | in-13 w ↦
           compaction-done s b rest Command.compact_declarations (λ T. refl) w.compact_declarations-outcome.ensures
-          (w.answer-is ∙ w.answer_number-answer-in-13.ensures) w.detail-is (meant 13 w.in-13.is)
+          (w.answer-is ∙ w.answer_number-answer-in-13.ensures) (w.detail-is ∙ w.detail_of-detail-in-13.ensures) (meant 13 w.in-13.is)
           w.kernel-is w.dependencies-is w.provisions-is
       | in-14 w ↦
           plain_done s b rest (Command.declare_provision id w.port_at-in-14.result) (λ T. refl) w.declare_provision-outcome.ensures
@@ -131,26 +118,28 @@ arm c =
           (w.answer-is ∙ w.answer_number-answer-in-15.ensures) w.detail-is
           (meant 15 w.in-15.is ∙ with-port Command.release_provision w.port_at-in-15.result w.port_at-in-15.ensures)
           w.kernel-is w.dependencies-is w.provisions-is
-      | in_default w ↦
+      | in_default-byte w ↦
           listing-done s b rest (Command.configure_pending_dependencies id s.dependencies) (λ T. refl) w.configure_pending_dependencies-outcome.ensures
-          (w.answer-is ∙ w.answer_number-answer-in_default.ensures) w.detail-is
-          (meant 16 (sixteenth b c.if-byte.false w.in_default.in_default-own.rest) ∙ of (λ n. Item.listing (Command.configure_pending_dependencies n s.dependencies)))
+          (w.answer-is ∙ w.answer_number-answer-in_default-byte.ensures) w.detail-is
+          (meant 16 (sixteenth b known (search rules)) ∙ of (λ n. Item.listing (Command.configure_pending_dependencies n s.dependencies)))
           w.kernel-is w.dependencies-is w.provisions-is
     ]
 
 pub loop-at-preserved : goal.loop-at-preserved
 loop-at-preserved c =
-    let place : c.loop-at.at + 1 + c.length_of-length.result ≡ c.loop-at.at + suc (operand_length (byte c)) = omega (arith, c.length_of-length.ensures) in
+    let place : c.loop-at.at + (1 + c.length_of-length.result) ≡ c.loop-at.at + suc (operand_length (byte c)) = omega (arith, c.length_of-length.ensures) in
     (simp length-set (omega arith), simp length-set (omega arith), playing-steps c.args.log.now c.loop-at.invariant.2 (omega arith) (omega arith) (arm c) place)
 
 pub returns-after-loop-at-clause-plays : goal.returns-after-loop-at-clause-plays
 returns-after-loop-at-clause-plays c = playing_over c.loop-at.invariant.2 (ended _ c.args.log.now c.loop-at-test.false)
 
-pub returns-then-byte-clause-plays : goal.returns-then-byte-clause-plays
-returns-then-byte-clause-plays c =
-    playing_over (playing-last c.args.log.now c.loop-at.invariant.2 (omega arith) (omega arith) (unknown-turn _ _ _ c.if-byte.true) refl) refl
+pub returns-then-not-is_command-clause-plays : goal.returns-then-not-is_command-clause-plays
+returns-then-not-is_command-clause-plays c =
+    playing_over (playing-last c.args.log.now c.loop-at.invariant.2 (omega arith) (omega arith) (unknown-turn _ _ _ (is_not-known _ c.if-not-is_command.ensures)) refl) refl
 
-pub returns-then-log-at-clause-plays : goal.returns-then-log-at-clause-plays
-returns-then-log-at-clause-plays c =
-    let cut = short c.args.log.now c.loop-at.at _ c.length_of-length.ensures c.loop-at-test.true c.if-log-at.true in
-    playing_over (playing-last c.args.log.now c.loop-at.invariant.2 (omega arith) (omega arith) (cut-turn _ _ _ c.if-byte.false cut) refl) refl
+pub returns-in_default-clause-plays : goal.returns-in_default-clause-plays
+returns-in_default-clause-plays c =
+    let less : length (behind-lent c.args.log.now c.loop-at.at _ c.length_of-length.ensures) < c.length_of-length.result =
+    elim c.in_default.ensures.lookup.0 [ inl l ↦ absurd (omega arith) | inr l ↦ l ] in
+    let cut = short c.args.log.now c.loop-at.at _ c.length_of-length.ensures less in
+    playing_over (playing-last c.args.log.now c.loop-at.invariant.2 (omega arith) (omega arith) (cut-turn _ _ _ (is_known _ c.if-not-is_command.ensures) cut) refl) refl

@@ -1,28 +1,18 @@
--- In each loop, what is left to scan answers as the whole does.
-use Rattle.model.proofs.Logic.{◌+◌, ◌-◌, ◌≡◌, slice, take, true}
-use Rattle.model.specs.{Resolution.offers, Lists.any, Records.same_port, declared.Port.Port}
-use Rattle.loops.proofs.{Laws.Distinct.Apart, Laws.Distinct.distinct_apart, Laws.Scanning.Seeking}
-use Rattle.loops.specs.{Columns.flag}
-use Rattle.sizes.specs.{Sizes.IDENTITIES}
+-- What is left of the list answers as the whole does; no port behind it is the same, and no declaration so far offers it.
+use Rattle.std.proofs.Common.{◌≡◌, drop, false, take, true}
+use Rattle.model.specs.{Lists.any, Records.same_port, Resolution.offers, declared.Port.Port}
+use Rattle.loops.proofs.{Laws.Distinct.distinct_apart}
+use Rattle.loops.specs.Columns.{flag}
+use Rattle.sizes.specs.Sizes.{IDENTITIES}
 use Rattle.scans.proofs.declarations.check_provisions.Given as goal
 
-abbrev pub invariant-loop-j : goal.invariant-loop-j
-invariant-loop-j l = (l.ok ≡ l.initial.ok) × Seeking (same_port l.p) l.ports l.end l.j (any (same_port l.p) (slice (l.i + 1) l.end l.ports))
+abbrev pub invariant-loop-q : goal.invariant-loop-q
+invariant-loop-q l = (l.ok ≡ true) × (any (same_port l.p) (take l.q-index l.q-items) ≡ false)
 
-abbrev pub decreases-loop-j : goal.decreases-loop-j
-decreases-loop-j l = l.end - l.j
-
-abbrev pub invariant-loop-k : goal.invariant-loop-k
-invariant-loop-k l =
-    (l.ok ≡ l.initial.ok) × Seeking (offers (flag IDENTITIES l.present) l.p) l.declarations l.table l.k (any (offers (flag IDENTITIES l.present) l.p) (take l.declared l.declarations))
-
-abbrev pub decreases-loop-k : goal.decreases-loop-k
-decreases-loop-k l = l.table - l.k
+abbrev pub invariant-loop-d : goal.invariant-loop-d
+invariant-loop-d l = (l.ok ≡ true) × (any (offers (flag IDENTITIES l.present) l.p) (take l.d-index l.declarations) ≡ false)
 
 abbrev pub invariant-scan : goal.invariant-scan
 invariant-scan l =
-    let taken = λ (p : Port). any (offers (flag IDENTITIES l.present) p) (take l.declared l.declarations) in
-    (l.ok ≡ true) × Apart taken l.ports l.end l.i (distinct_apart taken (take l.count l.ports))
-
-abbrev pub decreases-scan : goal.decreases-scan
-decreases-scan l = l.end - l.i
+    let taken = λ (p : Port). any (offers (flag IDENTITIES l.present) p) l.declarations in
+    (l.ok ≡ true) × (distinct_apart taken (drop l.i l.ports) ≡ distinct_apart taken l.ports)

@@ -1,11 +1,8 @@
 -- The first such link of what is left of the table is the whole's.
-use Rattle.model.proofs.Logic.{◌-◌, take}
-use Rattle.model.specs.{Lists.find, Soundness.links_to}
-use Rattle.loops.proofs.{Laws.Scanning.Finding}
+use Rattle.std.proofs.Common.{◌≡◌, drop}
+use Rattle.model.specs.Lists.{find}
+use Rattle.model.specs.Soundness.{links_to}
 use Rattle.scans.proofs.resolution.link_generation_in.Given as goal
 
-abbrev pub invariant-loop-i : goal.invariant-loop-i
-invariant-loop-i l = Finding (links_to l.consumer l.port) l.links l.end l.i (find (links_to l.consumer l.port) (take l.count l.links))
-
-abbrev pub decreases-loop-i : goal.decreases-loop-i
-decreases-loop-i l = l.end - l.i
+abbrev pub invariant-loop-l : goal.invariant-loop-l
+invariant-loop-l l = find (links_to l.consumer l.port) (drop l.l-index l.links) ≡ find (links_to l.consumer l.port) l.links

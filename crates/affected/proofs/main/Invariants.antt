@@ -1,6 +1,0 @@
--- `affected::main` is safe and ends.
-use Rattle.std.proofs.Common.{◌-◌}
-use Rattle.affected.proofs.main.Given as goal
-
-abbrev pub decreases-loop-i : goal.decreases-loop-i
-decreases-loop-i l = l.pairs - l.i

@@ -1,6 +1,0 @@
--- `cases::play_arguments` is safe and ends.
-use Rattle.std.proofs.Common.{◌-◌}
-use Rattle.cases.proofs.play_arguments.Given as goal
-
-abbrev pub decreases-loop-i : goal.decreases-loop-i
-decreases-loop-i l = l.count - l.i

@@ -1,7 +1,0 @@
--- `kernel::Kernel::contains`: a field of the node looked up.
-use Rattle.kernel.proofs.{Laws.Observers.entry_asks}
-use Rattle.model.specs.declared.records.Node.{Node}
-use Rattle.kernel.proofs.Kernel.contains.Goals as goal
-
-pub returns : goal.returns
-returns c = entry_asks c.args.self c.args.id (λ (n : Node). n.present) c.entry-entry.ensures

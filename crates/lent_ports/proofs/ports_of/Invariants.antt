@@ -1,9 +1,0 @@
--- Each turn is of a further place.
-use Rattle.std.proofs.Common.{◌-◌}
-use Rattle.lent_ports.proofs.ports_of.Given as goal
-
-abbrev pub invariant-loop-i : goal.invariant-loop-i
-invariant-loop-i l = Unit {0}
-
-abbrev pub decreases-loop-i : goal.decreases-loop-i
-decreases-loop-i l = 40 - l.i

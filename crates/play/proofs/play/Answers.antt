@@ -1,0 +1,11 @@
+-- `play::play` is safe, and what it hands over to be written is what the log prints: the buffer holds all of it.
+use Rattle.model.proofs.Logic.{List, ◌≤◌, arith, length, ℕ}
+use Rattle.player.proofs.{Laws.Answers.written_back, Theorems.Shifts.every_line}
+use Rattle.player.specs.{Printed.printed}
+use Rattle.play.proofs.play.Goals as goal
+
+pub write_printed-requires : goal.write_printed-requires
+write_printed-requires c =
+    let log : List ℕ = c.args.log.now in
+    let room : length (printed log) ≤ length c.lines_buffer-text.result = omega (arith, (every_line log).long, c.lines_buffer-text.ensures) in
+    written_back (printed log) c.lines_buffer-text.result room c.print-n.ensures

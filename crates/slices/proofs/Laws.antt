@@ -1,2 +1,0 @@
--- What the proof of port_list cites.
-pub mod Copies

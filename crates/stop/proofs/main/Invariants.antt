@@ -1,6 +1,0 @@
--- `stop::main` is safe and ends.
-use Rattle.std.proofs.Common.{◌-◌}
-use Rattle.stop.proofs.main.Given as goal
-
-abbrev pub decreases-loop-i : goal.decreases-loop-i
-decreases-loop-i l = l.count - l.i

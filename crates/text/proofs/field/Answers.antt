@@ -1,6 +1,0 @@
--- `field` meets its contract: the digits stand behind the space.
-use Rattle.text.proofs.Laws.Written.{puts_then}
-use Rattle.text.proofs.field.Goals as goal
-
-pub returns-clause-puts : goal.returns-clause-puts
-returns-clause-puts c = puts_then _ _ _ _ c.bytes-at.ensures.puts c.number.ensures.puts

@@ -1,8 +1,0 @@
-use Rattle.model.proofs.Logic.{◌-◌, length}
-use Rattle.text.proofs.words.word.Given as goal
-
-abbrev pub invariant-loop-i : goal.invariant-loop-i
-invariant-loop-i l = Unit {0}
-
-abbrev pub decreases-loop-i : goal.decreases-loop-i
-decreases-loop-i l = length l.line - l.i
