@@ -1,4 +1,4 @@
--- The live links of the components that wait to be cleaned: counted by provider, and chained by consumer. In a chain c stands for link c - 1, and 0 for none.
+-- The live links: counted by provider, those whose consumer waits; and chained by consumer. In a chain c stands for link c - 1, and 0 for none.
 use Rattle.std.specs.Prelude.{◌≡◌, Bool, ◌&&◌, cond, false, List, ◌+◌, ◌<◌, ◌≤◌, ℕ, ltb, get_or, length, set}
 use Rattle.drain.specs.declared.uses.Uses.{Uses}
 use Rattle.drain.specs.Order.{uses}

@@ -1,4 +1,4 @@
-// What loops over tables of any size share: a count that stops at a size, the bucket of a port, whether a list has a port twice.
+// What loops over tables of any size share: the bucket of a port, whether a list has a port twice.
 #![tactic(auto)]
 
 ghost use Rattle.std.specs.Prelude.{◌≡◌, ◌<◌};
@@ -6,16 +6,8 @@ ghost use Rattle.model.specs.Interface.{distinct};
 ghost use Rattle.model.specs.Lists.{any};
 ghost use Rattle.model.specs.Records.{same_port};
 ghost use Rattle.loops.specs.Chains.{BUCKETS, bucket_of};
-ghost use Rattle.loops.specs.Limits.{AtMost};
 
 use model::Port;
-
-// The count, or the size where that is less.
-pub fn at_most(count: usize, size: usize) -> usize
-    ensures { AtMost count size result }
-{
-    if count < size { count } else { size }
-}
 
 // How many chains there are, the same for kernels of every size.
 pub const BUCKETS: usize = 64;

@@ -1,4 +1,4 @@
-// What is read off a kernel's tables. A table comes as a slice, its entries below the count; a test comes as a function of one record.
+// What is read off a kernel's tables. A table is lent: its entries below the count as a slice, or the nodes as a whole array.
 #![tactic(auto)]
 
 ghost use Rattle.std.specs.Prelude.{◌≡◌};

@@ -17,7 +17,7 @@ mod declarations;
 mod links;
 mod nodes;
 
-// Whether the kernel of these tables and counts is sound. A function of the tables, so that a command that has them in locals puts no kernel together for it.
+// Whether the kernel of these tables and counts is sound. It takes the tables and their counts: the type of a kernel is above this crate.
 pub fn tables_sound(
     nodes: &[Node; IDENTITIES],
     n: usize,

@@ -1,5 +1,5 @@
 -- What check_insert asks of the arrays, by its command's row.
-use Rattle.model.proofs.Logic.{none, false, ◌≤◌, ◌<◌, ◌+◌, ◌∙◌, ap, set, List, Bool, [], ◌≡◌, length, map, refl, sym, take, true}
+use Rattle.model.proofs.Logic.{ℕ, none, false, ◌≤◌, ◌<◌, ◌+◌, ◌∙◌, ap, set, List, Bool, [], ◌≡◌, length, map, refl, sym, take, true}
 use Rattle.kernel.specs.{Fields.layout_of, Ports.BlankPast, Ports.appended, Ports.clash, declared.Kernel.Kernel}
 use Rattle.layouts.proofs.{Laws.Sound.SoundKernel, Laws.Declarations.Insertable, Laws.Declarations.clashes-are, Laws.Declarations.inserted-laid, Laws.Declarations.insertable, Laws.Declarations.length-listed, Laws.Declarations.more-padded}
 use Rattle.kernel.proofs.{Laws.Arrays.declarations_blank, Laws.Arrays.declarations_read, Laws.Arrays.declarations_within, Laws.Arrays.nodes_counted, Laws.Arrays.sound_kernel, Laws.Stored.stored-parent-is}
@@ -44,10 +44,11 @@ module _ {k : Kernel} (K : SoundKernel sizes (layout_of k)) (q : Parent) (ds ps 
   pub sum_within : k.declaration_count + ds.count + ps.count ≤ 256
   sum_within = room.sum
 
-  module _ {more : List Declaration} (e : more ≡ appended k.declaration_count k.node_count false k.declarations (listed ds)) where
-    pub more_blank : BlankPast (k.declaration_count + length (listed ds)) more
-    more_blank = let i = length-listed room.short.0 in rw i (more-padded K room.short k.node_count e)
+  -- whoever the owner is
+  pub more_blank : (o : ℕ) {more : List Declaration} → more ≡ appended k.declaration_count o false k.declarations (listed ds) → BlankPast (k.declaration_count + length (listed ds)) more
+  more_blank o e = let i = length-listed room.short.0 in rw i (more-padded K room.short o e)
 
+  module _ {more : List Declaration} (e : more ≡ appended k.declaration_count k.node_count false k.declarations (listed ds)) where
     pub inserted_leaves :
         {most : List Declaration} → most ≡ appended (k.declaration_count + length (listed ds)) k.node_count true more (listed ps) → {x : Node} → x ≡ new_node (byte_parent q) →
         lay_out sizes (inserted (tables_of (layout_of k)) q ds ps)
