@@ -4,7 +4,7 @@ use Rattle.kernel.specs.{Fields.is_sound, Fields.layout_of, Ports.BlankPast, dec
 use Rattle.layouts.proofs.{Laws.Sound.SoundKernel, Laws.Sound.declaration_count_is, Laws.Sound.declarations-laid, Laws.Sound.laid, Laws.Sound.link-count-is, Laws.Sound.node-count-is, Laws.Sound.node-is, Laws.Sound.node-past, Laws.Sound.places-are, Laws.Sound.present-below, Laws.Targets.resolve-found}
 use Rattle.loops.specs.{Columns.flag}
 use Rattle.model.specs.{Layouts.tables_of, Lists.places, Observers.children, Observers.ids, Records.blank_node, Records.is_child_of, Records.is_providing, Resolution.look_up, Resolution.resolve, Tables.node_at, Tables.present, declared.Port.Port, declared.Resolution.Resolution, declared.records.Node.Node}
-use Rattle.sizes.specs.{Sizes.IDENTITIES, Sizes.sizes}
+use Rattle.sizes.specs.{Sizes.DECLARATIONS, Sizes.IDENTITIES, Sizes.LINKS, Sizes.sizes}
 
 module _ (k : Kernel) where
   pub declarations_read : (tables_of (layout_of k)).declarations ≡ take k.declaration_count k.declarations
@@ -15,17 +15,17 @@ module _ (k : Kernel) where
   unfolding tables_of
   links_read = refl
 
-  pub sound_kernel : is_sound k ≡ true → length k.nodes ≡ 64 → length k.declarations ≡ 256 → length k.links ≡ 512 → SoundKernel sizes (layout_of k)
+  pub sound_kernel : is_sound k ≡ true → length k.nodes ≡ IDENTITIES → length k.declarations ≡ DECLARATIONS → length k.links ≡ LINKS → SoundKernel sizes (layout_of k)
   sound_kernel s n d l = record { sized = record { nodes = n; declarations = d; links = l }; sound = s }
 
 module _ {k : Kernel} (K : SoundKernel sizes (layout_of k)) where
-  pub nodes_within : k.node_count ≤ 64
+  pub nodes_within : k.node_count ≤ IDENTITIES
   nodes_within = (laid K).nodes
 
-  pub declarations_within : k.declaration_count ≤ 256
+  pub declarations_within : k.declaration_count ≤ DECLARATIONS
   declarations_within = (laid K).declarations
 
-  pub links_within : k.link_count ≤ 512
+  pub links_within : k.link_count ≤ LINKS
   links_within = (laid K).links
 
   pub nodes_counted : length (tables_of (layout_of k)).nodes ≡ k.node_count
@@ -41,14 +41,14 @@ module _ {k : Kernel} (K : SoundKernel sizes (layout_of k)) where
   unfolding tables_of
   declarations_blank = sym (declarations-laid K)
 
-  pub below : (id : ℕ) → present (tables_of (layout_of k)).nodes id ≡ true → id < 64
+  pub below : (id : ℕ) → present (tables_of (layout_of k)).nodes id ≡ true → id < IDENTITIES
   below id h = present-below K id h
 
   -- the node of an identity, blank past the array
   pub node_inside : (id : ℕ) → node_at (tables_of (layout_of k)).nodes id ≡ get_or k.nodes id blank_node
   node_inside id = node-is K id
 
-  pub node_past : (id : ℕ) → 64 ≤ id → node_at (tables_of (layout_of k)).nodes id ≡ blank_node
+  pub node_past : (id : ℕ) → IDENTITIES ≤ id → node_at (tables_of (layout_of k)).nodes id ≡ blank_node
   node_past id q = node-past K id q
 
   -- the places of the nodes that are present, and of a parent's children

@@ -5,9 +5,9 @@ use Rattle.layouts.proofs.{Laws.Sound.SoundKernel, Laws.Declarations.Insertable,
 use Rattle.kernel.proofs.{Laws.Arrays.declarations_blank, Laws.Arrays.declarations_read, Laws.Arrays.declarations_within, Laws.Arrays.nodes_counted, Laws.Arrays.sound_kernel, Laws.Stored.stored-parent-is}
 use Rattle.model.proofs.{Laws.Refusals.passed}
 use Rattle.loops.specs.{Columns.flag}
-use Rattle.model.specs.{Refusals.first, Insertion.insert_tests, Insertion.inserted, Layouts.lay_out, Records.byte_parent, Records.new_node, declared.records.Declaration.Declaration, Insertion.clashes, Insertion.parent_present, Insertion.parent_retired, Interface.listed, Layouts.tables_of, declared.Parent.Parent, declared.PortList.PortList, declared.records.Node.Node}
+use Rattle.model.specs.{Refusals.first, Insertion.insert_tests, Insertion.inserted, Layouts.lay_out, Records.byte_parent, Records.new_node, declared.records.Declaration.Declaration, Insertion.clashes, Insertion.parent_present, Insertion.parent_retired, Interface.listed, Layouts.tables_of, Sizes.list_limit, declared.Parent.Parent, declared.PortList.PortList, declared.records.Node.Node}
 use Rattle.scans.specs.{Flags.nodes_and_links}
-use Rattle.sizes.specs.{Sizes.IDENTITIES, Sizes.sizes}
+use Rattle.sizes.specs.{Sizes.DECLARATIONS, Sizes.IDENTITIES, Sizes.sizes}
 
 module _ (k : Kernel) where
   pub here_too : (q : Parent) → parent_present (nodes_and_links (take k.node_count k.nodes) []) q ≡ parent_present (tables_of (layout_of k)) q
@@ -28,20 +28,20 @@ clash_is K fs ds ps f = sym (clashes-are K f ds ps refl refl)
 
 -- ---- one component more
 
-module _ {k : Kernel} (K : SoundKernel sizes (layout_of k)) (q : Parent) (ds ps : PortList) (n : length ds.ports ≡ 32) (m : length ps.ports ≡ 32) (p : first (insert_tests sizes (tables_of (layout_of k)) q ds ps) ≡ none) where
+module _ {k : Kernel} (K : SoundKernel sizes (layout_of k)) (q : Parent) (ds ps : PortList) (n : length ds.ports ≡ list_limit) (m : length ps.ports ≡ list_limit) (p : first (insert_tests sizes (tables_of (layout_of k)) q ds ps) ≡ none) where
   room : Insertable sizes (layout_of k) q ds ps
   room = insertable K q n m (passed _ p)
 
-  pub dependencies_short : ds.count ≤ 32
+  pub dependencies_short : ds.count ≤ list_limit
   dependencies_short = room.short.0.within
 
-  pub provisions_short : ps.count ≤ 32
+  pub provisions_short : ps.count ≤ list_limit
   provisions_short = room.short.1.within
 
-  pub identity_free : k.node_count < 64
+  pub identity_free : k.node_count < IDENTITIES
   identity_free = room.node
 
-  pub sum_within : k.declaration_count + ds.count + ps.count ≤ 256
+  pub sum_within : k.declaration_count + ds.count + ps.count ≤ DECLARATIONS
   sum_within = room.sum
 
   -- whoever the owner is

@@ -5,8 +5,8 @@ use Rattle.kernel.proofs.{Laws.Arrays.below, Laws.Arrays.declarations_counted, L
 use Rattle.layouts.proofs.{Laws.Anew.HoldsDeclarations, Laws.Anew.all-kept, Laws.Anew.declarations-anew, Laws.Anew.declarations-held, Laws.Anew.holds-padded, Laws.Anew.holds_more, Laws.Declarations.Configurable, Laws.Declarations.configured, Laws.Sound.laid, Laws.Sound.SoundKernel, Laws.Declarations.declared-before, Laws.Declarations.declared-now, Laws.Declarations.taken_is}
 use Rattle.loops.specs.{Columns.flag}
 use Rattle.model.proofs.{Laws.Refusals.passed}
-use Rattle.model.specs.{Refusals.first, Interface.configure_tests, Interface.dependencies_configured, Interface.listed, Interface.remaining, Records.dependency, Interface.own, Interface.provision_declared, Interface.remains, Interface.taken, Layouts.lay_out, Layouts.tables_of, Lists.any, Records.byte_of, Records.provision, Resolution.offers, declared.Port.Port, declared.PortList.PortList, declared.records.Declaration.Declaration, declared.records.Node.Node}
-use Rattle.sizes.specs.{Sizes.IDENTITIES, Sizes.sizes}
+use Rattle.model.specs.{Refusals.first, Interface.configure_tests, Interface.dependencies_configured, Interface.listed, Interface.remaining, Records.dependency, Interface.own, Interface.provision_declared, Interface.remains, Interface.taken, Layouts.lay_out, Layouts.tables_of, Lists.any, Records.byte_of, Records.provision, Resolution.offers, Sizes.list_limit, declared.Port.Port, declared.PortList.PortList, declared.records.Declaration.Declaration, declared.records.Node.Node}
+use Rattle.sizes.specs.{Sizes.DECLARATIONS, Sizes.IDENTITIES, Sizes.sizes}
 
 module _ {k : Kernel} (K : SoundKernel sizes (layout_of k)) where
   pub taken_too : (fs : List Bool) (p : Port) → fs ≡ map (λ (m : Node). m.present) k.nodes → any (offers (flag IDENTITIES fs) p) (take k.declaration_count k.declarations) ≡ taken (tables_of (layout_of k)) p
@@ -16,27 +16,27 @@ module _ {k : Kernel} (K : SoundKernel sizes (layout_of k)) where
   declared_before id p h = declared-before K id p h
 
   pub declared_now :
-      (id : ℕ) (p : Port) (x : Declaration) → own (tables_of (layout_of k)) id p ≡ false → k.declaration_count < 256 → id < 64 → x ≡ provision (byte_of id) p →
+      (id : ℕ) (p : Port) (x : Declaration) → own (tables_of (layout_of k)) id p ≡ false → k.declaration_count < DECLARATIONS → id < IDENTITIES → x ≡ provision (byte_of id) p →
       lay_out sizes (provision_declared (tables_of (layout_of k)) id p)
       ≡ layout_of (record { nodes = k.nodes; node_count = k.node_count; declarations = set k.declarations k.declaration_count x; declaration_count = k.declaration_count + 1; links = k.links; link_count = k.link_count })
   declared_now id p x h m b e = declared-now K id p h m (e ∙ ap (λ (i : ℕ). provision i p) (stored_is b))
 
 -- ---- the dependencies of a component replaced: what remains, and the list behind it
 
-module _ {k : Kernel} (K : SoundKernel sizes (layout_of k)) (id : ℕ) (l : PortList) (n : length l.ports ≡ 32) (p : first (configure_tests sizes (tables_of (layout_of k)) id l) ≡ none) where
+module _ {k : Kernel} (K : SoundKernel sizes (layout_of k)) (id : ℕ) (l : PortList) (n : length l.ports ≡ list_limit) (p : first (configure_tests sizes (tables_of (layout_of k)) id l) ≡ none) where
   rest : HoldsDeclarations sizes (remaining (tables_of (layout_of k)) id) (declarations_kept (remains id) k).declarations (declarations_kept (remains id) k).declaration_count
   rest = all-kept (record { entries = refl; counted = refl }) (declarations-held K) (laid K).declarations refl
 
-  can : Configurable sizes (layout_of k) id l × (length (remaining (tables_of (layout_of k)) id) + length (listed l) ≤ 256)
+  can : Configurable sizes (layout_of k) id l × (length (remaining (tables_of (layout_of k)) id) + length (listed l) ≤ DECLARATIONS)
   can = configured K id n (passed _ p)
 
-  pub list_short : l.count ≤ 32
+  pub list_short : l.count ≤ list_limit
   list_short = can.0.short.within
 
-  pub configured_below : id < 64
+  pub configured_below : id < IDENTITIES
   configured_below = can.0.below
 
-  pub rest_room : (declarations_kept (remains id) k).declaration_count + length (listed l) ≤ 256
+  pub rest_room : (declarations_kept (remains id) k).declaration_count + length (listed l) ≤ DECLARATIONS
   rest_room = rw rest.counted at can.1
 
   pub rest_blank : BlankPast (declarations_kept (remains id) k).declaration_count (declarations_kept (remains id) k).declarations
