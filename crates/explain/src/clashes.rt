@@ -34,7 +34,7 @@ fn repeat_of(list: ListKind, ports: &[Port], port: Port) -> Option<Witness>
 fn offers(sound: Sound, port: Port, d: Declaration) -> bool
     ensures { result ≡ offers (present (tables_in sound.entry.kernel.now).nodes) port d }
 {
-    d.provides && d.port == port && sound.node(records::owner_in(d)).present
+    d.provides && records::declared_port(d) == port && sound.node(records::owner_in(d)).present
 }
 
 // A port with the first present owner that provides it; whether that is Active is not asked.

@@ -85,7 +85,7 @@ pub fn is_declaration(owner: usize, port: Port, provides: bool, declaration: Dec
     ensures { result ≡ is_declaration owner port provides declaration }
 {
     (crate::owner_in(declaration) == owner)
-        & (declaration.port == port)
+        & (crate::declared_port(declaration) == port)
         & (declaration.provides == provides)
 }
 

@@ -25,7 +25,7 @@ pub fn declares_in(declarations: &[Declaration], owner: usize, port: Port, provi
 pub fn offers(present: &[bool; IDENTITIES], port: Port, d: Declaration) -> bool
     ensures { result ≡ offers (flag IDENTITIES present.now) port d }
 {
-    d.provides & (d.port == port) & flag_at(present, records::owner_in(d))
+    d.provides & (records::declared_port(d) == port) & flag_at(present, records::owner_in(d))
 }
 
 // Whether a present owner provides the port; present tells who is.

@@ -53,7 +53,7 @@ impl<'a> Chains<'a> {
         let mut by_port = Chain::empty();
         let mut by_owner = Chain::empty();
         for (i, d) in declarations.iter().enumerate() {
-            let Port { key, realm } = d.port;
+            let Port { key, realm } = records::declared_port(*d);
             by_port.push(i, bucket_of(0, key, realm));
             by_owner.push(i, bucket_of(records::owner_in(*d), key, realm));
         }

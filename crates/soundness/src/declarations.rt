@@ -37,7 +37,8 @@ fn same_owner(nodes: &[Node], d: Declaration, e: Declaration) -> bool
     let owner = records::owner_in(d);
     let other = records::owner_in(e);
     let offered = d.provides & e.provides & is_present(nodes, owner) & is_present(nodes, other);
-    !(offered & (d.port == e.port)) | (owner == other)
+    let same = records::declared_port(d) == records::declared_port(e);
+    !(offered & same) | (owner == other)
 }
 
 // Whether a declaration has one owner with each of those chained: only its port's chain is read.
@@ -47,7 +48,8 @@ fn one_provider(chains: &Chains<'_>, nodes: &[Node], d: Declaration) -> bool
     if !(d.provides & is_present(nodes, records::owner_in(d))) {
         return true;
     }
-    let mut c = chains.by_port.first[bucket_of(0, d.port.key, d.port.realm)];
+    let port = records::declared_port(d);
+    let mut c = chains.by_port.first[bucket_of(0, port.key, port.realm)];
     while c > 0 {
         if !same_owner(nodes, d, chains.declarations[c - 1]) {
             return false;

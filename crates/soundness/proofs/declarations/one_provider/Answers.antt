@@ -8,7 +8,7 @@ returns-then-not-d-is_present c =
     sym (not_offered (present c.args.nodes.now) c.args.d _ (rw (c.is_present.ensures, c.owner_in.ensures) at c.if-not-d-is_present.true))
 
 pub loop-c-init : goal.loop-c-init
-loop-c-init c = walk_start c.bucket_of.ensures c.args.chains.now.chained.ports (only_rival (present c.args.nodes.now) c.args.d)
+loop-c-init c = walk_start (rw c.declared_port-port.ensures at c.bucket_of.ensures) c.args.chains.now.chained.ports (only_rival (present c.args.nodes.now) c.args.d)
 
 pub loop-c-smaller : goal.loop-c-smaller
 loop-c-smaller c = walk_less c.loop-c.invariant c.loop-c-test.true

@@ -8,8 +8,8 @@ loop-i-init c = rw (c.empty-by_port.ensures, c.empty-by_owner.ensures) record { 
 pub loop-i-preserved : goal.loop-i-preserved
 loop-i-preserved c =
     let h = c.loop-i.invariant in
-    let p = c.bucket_of.ensures in
-    let o = rw c.owner_in.ensures at c.bucket_of-in-loop-i.ensures in
+    let p = rw c.declared_port-key.ensures at c.bucket_of.ensures in
+    let o = rw (c.owner_in.ensures, c.declared_port-key.ensures) at c.bucket_of-in-loop-i.ensures in
     record {
       ports = rw c.push.ensures (chain_next h.ports (omega arith) (sym p.0) p.1);
       owners = rw c.push-in-loop-i.ensures (chain_next h.owners (omega arith) (sym o.0) o.1);
