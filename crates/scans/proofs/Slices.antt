@@ -1,5 +1,6 @@
 -- Loops over a slice: what is left of it answers as the whole does. One more entry, a hit, and the end, for each kind of loop.
-use Rattle.model.proofs.Logic.{Bool, List, [], ◌++◌, ◌+◌, ◌<◌, ◌∙◌, ◌∷◌, ◌≡◌, ◌≤◌, add-one, ap, append-nil, arith, drop, false, get_or, length, length-set, map, map-append, none, refl, set, some, sym, take, take-suc, take-suc-set, take_all, true, ℕ}
+use Rattle.std.specs.Prelude.{min}
+use Rattle.model.proofs.Logic.{Bool, List, [], ◌++◌, ◌+◌, ◌<◌, ◌∙◌, ◌∷◌, ◌≡◌, ◌≤◌, add-one, ap, append-nil, arith, drop, false, get_or, length, length-set, length-take, map, map-append, none, refl, set, some, sym, take, take-suc, take-suc-set, take_all, true, ℕ}
 use Rattle.model.specs.{Lists.any, Lists.find, Lists.keep, Records.binding_of, Records.owner_in, Resolution.Target, Resolution.bind_ports, Resolution.dependency_ports, Resolution.is_dependency_of, Resolution.joined, Resolution.look_up, Resolution.offers, Resolution.owned, declared.Binding.Binding, declared.Port.Port, declared.Resolution.Resolution, declared.records.Declaration.Declaration}
 use Rattle.loops.proofs.{Laws.Resolving.after, Laws.Resolving.after-joined, Laws.Scan.rest-done, Laws.Scan.rest-next}
 
@@ -92,3 +93,11 @@ module _ (r : Port → Resolution) (id : ℕ) (ds : List Declaration) (i : ℕ) 
 -- the first k entries of a list, where it has no more
 pub all_read : {A : Type 0} (q : A → Bool) (xs : List A) (k : ℕ) → any q (take k xs) ≡ false → length xs ≤ k → any q xs ≡ false
 all_read q xs k a l = rw (take_all k xs l) at a
+
+-- the first entries of a list, at most n: no more than n, and all of a list that has no more
+module _ {A : Type 0} (n m : ℕ) (xs : List A) (e : m ≡ min n (length xs)) where
+  pub first_read : length xs ≤ n → xs ≡ take m xs
+  first_read l = sym (take_all m xs (omega (arith, e)))
+
+  pub first_within : length (take m xs) ≤ n
+  first_within = omega (arith, e, length-take m xs)

@@ -40,19 +40,21 @@ pub fn resolve_in(declarations: &[Declaration], flags: &NodeFlags, port: Port) -
 }
 
 // The binding of each dependency of a component, in declaration order; none at the first port that does not resolve, with the lookup's answer.
+// Of more declarations than a kernel holds the first ones are read, and nothing is said.
 pub fn target_in(
     declarations: &[Declaration],
     flags: &NodeFlags,
     id: usize,
 ) -> Result<TargetBindings, Option<Unresolved>>
-    requires { length declarations.now ≤ DECLARATIONS }
-    ensures { result ≡ target_bindings (bind_ports (look_up (flag IDENTITIES flags.now.present) (flag IDENTITIES flags.now.providing) declarations.now) (dependency_ports declarations.now id)) }
+    ensures { length declarations.now ≤ DECLARATIONS →
+        result ≡ target_bindings (bind_ports (look_up (flag IDENTITIES flags.now.present) (flag IDENTITIES flags.now.providing) declarations.now) (dependency_ports declarations.now id)) }
 {
+    let declarations = &declarations[..DECLARATIONS.min(declarations.len())];
     let mut bindings = [records::blank_binding(); DECLARATIONS];
     let mut count = 0;
     for d in declarations {
         if records::is_dependency_of(id, *d) {
-            let port = d.port;
+            let port = records::declared_port(*d);
             let found = resolve_in(declarations, flags, port);
             let Resolution::Provider(p) = found else {
                 return Err(Some(Unresolved { port, found }));
@@ -64,11 +66,11 @@ pub fn target_in(
     Ok(TargetBindings { bindings, count })
 }
 
-// The bindings of a consumer's live links, in link order.
+// The bindings of a consumer's live links, in link order. Of more links than a kernel holds the first ones are read, and nothing is said.
 pub fn committed_in(links: &[Link], id: usize) -> CommittedBindings
-    requires { length links.now ≤ LINKS }
-    ensures { result ≡ committed_bindings (committed links.now id) }
+    ensures { length links.now ≤ LINKS → result ≡ committed_bindings (committed links.now id) }
 {
+    let links = &links[..LINKS.min(links.len())];
     let mut bindings = [records::blank_binding(); LINKS];
     let mut count = 0;
     for l in links {
@@ -111,8 +113,8 @@ pub fn target_table(
     declarations: &[Declaration],
     id: usize,
 ) -> Result<TargetBindings, Option<Unresolved>>
-    requires { length declarations.now ≤ DECLARATIONS }
-    ensures { result ≡ target_bindings (bind_ports (look_up (flag IDENTITIES (map (λ n. n.present) nodes.now)) (flag IDENTITIES (map is_providing nodes.now)) declarations.now) (dependency_ports declarations.now id)) }
+    ensures { length declarations.now ≤ DECLARATIONS →
+        result ≡ target_bindings (bind_ports (look_up (flag IDENTITIES (map (λ n. n.present) nodes.now)) (flag IDENTITIES (map is_providing nodes.now)) declarations.now) (dependency_ports declarations.now id)) }
 {
     target_in(declarations, &node_flags(nodes), id)
 }
