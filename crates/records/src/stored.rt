@@ -1,6 +1,6 @@
 // The stored records: read, made and tested for blanks here, so that how they are stored is said in one place. An identity takes one byte; only this file knows it.
 ghost use Rattle.std.specs.Prelude.{◌≡◌, ◌&&◌};
-ghost use Rattle.model.specs.Records.{binding_in, blank_declaration, blank_link, blank_node, byte_binding, byte_of, byte_parent, consumer_in, dead_for, declaration_of, declared_port, is_blank_declaration, is_blank_link, is_blank_node, live_link, new_node, owner_in, parent_in, port_in, provider_in, provision, stored_parent};
+ghost use Rattle.model.specs.Records.{binding_in, blank_declaration, blank_link, blank_node, byte_binding, byte_of, byte_parent, consumer_in, dead_for, dead_link, declaration_of, declared_port, is_blank_declaration, is_blank_link, is_blank_node, live_link, new_node, owner_in, parent_in, port_in, provider_in, provision, stored_parent, with_phase};
 
 use model::{Binding, Declaration, Link, Node, Parent, Phase, Port, StoredParent};
 
@@ -85,6 +85,12 @@ pub fn new_node(parent: Parent) -> Node
     }
 }
 
+pub fn with_phase(phase: Phase, node: Node) -> Node
+    ensures { result ≡ with_phase phase node }
+{
+    Node { phase, ..node }
+}
+
 // A provision or a dependency.
 pub fn declaration_of(owner: usize, provides: bool, port: Port) -> Declaration
     ensures { result ≡ declaration_of (byte_of owner) provides port }
@@ -122,6 +128,16 @@ pub fn dead_for(consumer: usize, mut link: Link) -> Link
 {
     link.live &= consumer_in(link) != consumer;
     link
+}
+
+// The link, dead; it keeps its generation.
+pub fn dead_link(link: Link) -> Link
+    ensures { result ≡ dead_link link }
+{
+    Link {
+        live: false,
+        ..link
+    }
 }
 
 pub fn blank_node() -> Node

@@ -1,6 +1,6 @@
 // A component's node written anew, by the command that writes it.
 ghost use Rattle.std.specs.Prelude.{◌≡◌};
-ghost use Rattle.model.specs.Records.{absent_node, restored_node, restoring_node, started_node};
+ghost use Rattle.model.specs.Records.{absent_node, restored_node, restoring_node, retired_node, started_node};
 
 use model::{Node, Phase};
 
@@ -11,6 +11,15 @@ pub fn started_node(generation: u64, node: Node) -> Node
     Node {
         phase: Phase::Loading,
         generation,
+        ..node
+    }
+}
+
+pub fn retired_node(node: Node) -> Node
+    ensures { result ≡ retired_node node }
+{
+    Node {
+        retired: true,
         ..node
     }
 }
