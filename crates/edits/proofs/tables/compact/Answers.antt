@@ -1,7 +1,7 @@
-use Rattle.std.proofs.Common.{refl, ◌∙◌, ap, append-nil, arith, sym, Bool, List, ◌≡◌, ◌+◌, ◌-◌, ◌<◌, get_or, length, length-set}
+use Rattle.std.proofs.Common.{refl, ◌∙◌, ap, append-nil, arith, sym, false, true, Bool, List, ◌≡◌, ◌+◌, ◌-◌, ◌<◌, ◌≤◌, get_or, length, length-set}
 use Rattle.std.proofs.Math.ListN.{set}
 use Rattle.std.proofs.lemmas.List.{get_or_default}
-use Rattle.loops.proofs.Laws.Compacting.{Compacting, blanking_next, blanking_start, blanks_next, compacting-done, compacting_drops, compacting_moves, compacting_stays, compacting_start, drop-writes, stay_writes, store_writes, writes-done}
+use Rattle.loops.proofs.Laws.Compacting.{Compacting, Writes, WritesNone, blanking_next, blanking_start, blanks_next, compacting-done, compacting_drops, compacting_moves, compacting_stays, compacting_start, drop-writes, stay_writes, store_writes, writes-done}
 use Rattle.loops.specs.InPlace.{interval, scanned}
 use Rattle.edits.specs.Kept.{Answers}
 use Rattle.edits.proofs.tables.compact.Given.{F-post, Over}
@@ -44,16 +44,25 @@ module _ (g : Over) (c : Joined-keeps g) (p : g.row.T.Denot → Bool) (a : Answe
         | else-keeps w ↦ compacting_drops h l (passes ∙ w.if-keeps.false) (ap g.A.Table.records w.table-is) w.n-is
       ]
 
+  -- where the code stores, the list of places written grows by n; on the two other ways through a turn it stays
+  at_store : c.keeps.result ≡ true → c.loop-i.n < c.loop-i.i → Writes p c.args.blank (g.A.Table.records c.args.table.now) c.loop-i.i c.loop-i.n
+  at_store t l = store_writes (c.loop-i.invariant.scans p a) (passes ∙ t) l
+
+  past-store : c.keeps.result ≡ true → c.loop-i.i ≤ c.loop-i.n → WritesNone p c.args.blank (g.A.Table.records c.args.table.now) c.loop-i.i
+  past-store t l = stay_writes (c.loop-i.invariant.scans p a) (passes ∙ t) l
+
+  past-dropped : c.keeps.result ≡ false → WritesNone p c.args.blank (g.A.Table.records c.args.table.now) c.loop-i.i
+  past-dropped t = drop-writes (c.loop-i.invariant.scans p a) (passes ∙ t)
+
   stores-on : g.A.Table.stores c.args.table.now (scanned p c.args.blank xs (c.loop-i.i + 1)).written c.if-keeps.table
   stores-on =
-      let h = c.loop-i.invariant.scans p a in
       let s = c.loop-i.invariant.stores p a in
       elim c.if-keeps.branch [
         | then-keeps w ↦ elim w.if-n-i.branch [
-          | then-n-i v ↦ rw (store_writes h (passes ∙ w.if-keeps.true) v.if-n-i.true, w.table-is ∙ v.table-is) (v.set.ensures.stored _ _ s)
-          | else-n-i v ↦ rw (stay_writes h (passes ∙ w.if-keeps.true) v.if-n-i.false, w.table-is ∙ v.table-is) s
+          | then-n-i v ↦ rw (at_store w.if-keeps.true v.if-n-i.true, w.table-is ∙ v.table-is) (v.set.ensures.stored _ _ s)
+          | else-n-i v ↦ rw (past-store w.if-keeps.true v.if-n-i.false, w.table-is ∙ v.table-is) s
         ]
-        | else-keeps w ↦ rw (drop-writes h (passes ∙ w.if-keeps.false), w.table-is) s
+        | else-keeps w ↦ rw (past-dropped w.if-keeps.false, w.table-is) s
       ]
 
 pub loop-i-preserved : goal.loop-i-preserved
