@@ -1,4 +1,4 @@
-// Cleanup and removal.
+// Cleanup and removal. Each command has a form in place (`begin_cleanup_in` and the like): it answers the same, and a refusal leaves the kernel as it was.
 #![tactic(auto, using(crate::proofs::Laws::Handed::answer_numbered))]
 
 ghost use Rattle.std.specs.Prelude.{◌≡◌, ◌≤◌, OnErr};
@@ -26,8 +26,9 @@ impl Kernel {
         }
     }
 
+    // begin_cleanup on the kernel in place.
     #[tactic(auto, using(crate::proofs::Laws::Lifecycle::begin_cleanup_laws), unfolding(model::specs::Refusals::first))]
-    fn begin_cleanup_in(&mut self, id: usize) -> Result<(), Error>
+    pub fn begin_cleanup_in(&mut self, id: usize) -> Result<(), Error>
         ensures does { Does self.old (Command.begin_cleanup id) self.new result }
         ensures refused { OnErr result (self.new ≡ self.old) }
     {
@@ -50,8 +51,9 @@ impl Kernel {
         }
     }
 
+    // finish_cleanup on the kernel in place.
     #[tactic(auto, using(crate::proofs::Laws::Lifecycle::finish_cleanup_laws), unfolding(model::specs::Refusals::first))]
-    fn finish_cleanup_in(&mut self, id: usize) -> Result<(), Error>
+    pub fn finish_cleanup_in(&mut self, id: usize) -> Result<(), Error>
         ensures does { Does self.old (Command.finish_cleanup id) self.new result }
         ensures refused { OnErr result (self.new ≡ self.old) }
     {
@@ -76,8 +78,9 @@ impl Kernel {
         }
     }
 
+    // remove on the kernel in place.
     #[tactic(auto, using(crate::proofs::Laws::Lifecycle::remove_laws))]
-    fn remove_in(&mut self, id: usize) -> Result<(), Error>
+    pub fn remove_in(&mut self, id: usize) -> Result<(), Error>
         ensures does { Does self.old (Command.remove id) self.new result }
         ensures refused { OnErr result (self.new ≡ self.old) }
     {

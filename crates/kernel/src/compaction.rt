@@ -1,4 +1,4 @@
-// Compaction, each within its own table.
+// Compaction, each within its own table. Each has a form in place (`compact_bindings_in` and the like): it answers the same, and a refusal leaves the kernel as it was.
 #![tactic(auto, using(crate::proofs::Laws::Handed::compaction_numbered))]
 
 ghost use Rattle.std.specs.Prelude.{◌≡◌, OnErr};
@@ -21,8 +21,9 @@ impl Kernel {
         }
     }
 
+    // compact_bindings on the kernel in place.
     #[tactic(auto, using(crate::proofs::Laws::Arrays::sound_kernel, crate::proofs::Laws::Arrays::links_within), unfolding(model::specs::Refusals::first, model::specs::Kernels::asked, model::specs::Kernels::commanded, model::specs::Commands::step, model::specs::Commands::settle))]
-    fn compact_bindings_in(&mut self) -> Result<usize, Error>
+    pub fn compact_bindings_in(&mut self) -> Result<usize, Error>
         ensures does { CompactionDoes self.old Command.compact_bindings self.new result }
         ensures refused { OnErr result (self.new ≡ self.old) }
     {
@@ -45,8 +46,9 @@ impl Kernel {
         }
     }
 
+    // compact_declarations on the kernel in place.
     #[tactic(auto, using(crate::proofs::Laws::Arrays::sound_kernel, crate::proofs::Laws::Arrays::declarations_within), unfolding(model::specs::Refusals::first, model::specs::Kernels::asked, model::specs::Kernels::commanded, model::specs::Commands::step, model::specs::Commands::settle))]
-    fn compact_declarations_in(&mut self) -> Result<usize, Error>
+    pub fn compact_declarations_in(&mut self) -> Result<usize, Error>
         ensures does { CompactionDoes self.old Command.compact_declarations self.new result }
         ensures refused { OnErr result (self.new ≡ self.old) }
     {

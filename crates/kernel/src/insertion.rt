@@ -1,4 +1,4 @@
-// Insertion.
+// Insertion. It has a form in place, `insert_in`: it answers the same, and a refusal leaves the kernel as it was.
 #![tactic(auto, using(crate::proofs::Laws::Handed::insert_numbered))]
 
 ghost use Rattle.std.specs.Prelude.{◌≡◌, ◌∷◌, [], not, OnErr};
@@ -61,8 +61,9 @@ impl Kernel {
         }
     }
 
+    // insert on the kernel in place.
     #[tactic(auto, using(crate::proofs::Laws::Insertion::insert_laws), unfolding(model::specs::Kernels::asked, model::specs::Kernels::commanded, model::specs::Commands::step, model::specs::Commands::settle, model::specs::Insertion::check_insert))]
-    fn insert_in(
+    pub fn insert_in(
         &mut self,
         parent: Parent,
         dependencies: PortList,

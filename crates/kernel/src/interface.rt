@@ -1,4 +1,4 @@
-// Interface commands.
+// Interface commands. Each has a form in place (`declare_provision_in` and the like): it answers the same, and a refusal leaves the kernel as it was.
 #![tactic(auto, using(crate::proofs::Laws::Handed::answer_numbered))]
 
 ghost use Rattle.std.specs.Prelude.{◌≡◌, ◌≤◌, Bool, OnErr};
@@ -28,8 +28,9 @@ impl Kernel {
         }
     }
 
+    // declare_provision on the kernel in place.
     #[tactic(auto, using(crate::proofs::Laws::Interface::declare_laws), unfolding(model::specs::Refusals::first, model::specs::Kernels::asked, model::specs::Kernels::commanded, model::specs::Commands::step, model::specs::Commands::settle))]
-    fn declare_provision_in(&mut self, id: usize, port: Port) -> Result<(), Error>
+    pub fn declare_provision_in(&mut self, id: usize, port: Port) -> Result<(), Error>
         ensures does { Does self.old (Command.declare_provision id port) self.new result }
         ensures refused { OnErr result (self.new ≡ self.old) }
     {
@@ -59,8 +60,9 @@ impl Kernel {
         }
     }
 
+    // release_provision on the kernel in place.
     #[tactic(auto, using(crate::proofs::Laws::Arrays::links_read), unfolding(model::specs::Refusals::first, model::specs::Kernels::asked, model::specs::Kernels::commanded, model::specs::Commands::step, model::specs::Commands::settle))]
-    fn release_provision_in(&mut self, id: usize, port: Port) -> Result<(), Error>
+    pub fn release_provision_in(&mut self, id: usize, port: Port) -> Result<(), Error>
         ensures does { Does self.old (Command.release_provision id port) self.new result }
         ensures refused { OnErr result (self.new ≡ self.old) }
     {
@@ -82,8 +84,13 @@ impl Kernel {
         }
     }
 
+    // configure_pending_dependencies on the kernel in place.
     #[tactic(auto, using(crate::proofs::Laws::Interface::configure_laws), unfolding(model::specs::Kernels::asked, model::specs::Kernels::commanded, model::specs::Commands::step, model::specs::Commands::settle))]
-    fn configure_pending_dependencies_in(&mut self, id: usize, list: PortList) -> Result<(), Error>
+    pub fn configure_pending_dependencies_in(
+        &mut self,
+        id: usize,
+        list: PortList,
+    ) -> Result<(), Error>
         ensures does { Does self.old (Command.configure_pending_dependencies id list) self.new result }
         ensures refused { OnErr result (self.new ≡ self.old) }
     {

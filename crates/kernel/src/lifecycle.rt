@@ -1,4 +1,4 @@
-// Lifecycle. Each command has an inner form, on the kernel in place, whose refusal leaves the kernel as it was.
+// Lifecycle. Each command has a form in place (`begin_in` and the like): it answers the same, and a refusal leaves the kernel as it was.
 #![tactic(auto, using(crate::proofs::Laws::Handed::answer_numbered))]
 
 ghost use Rattle.std.specs.Prelude.{◌≡◌, ◌+◌, ◌<◌, ◌≤◌, OnErr, length};
@@ -29,8 +29,9 @@ impl Kernel {
         }
     }
 
+    // begin on the kernel in place.
     #[tactic(auto, using(crate::proofs::Laws::Lifecycle::begin_laws), unfolding(model::specs::Refusals::first))]
-    fn begin_in(&mut self, id: usize) -> Result<(), Error>
+    pub fn begin_in(&mut self, id: usize) -> Result<(), Error>
         ensures does { Does self.old (Command.begin id) self.new result }
         ensures refused { OnErr result (self.new ≡ self.old) }
     {
@@ -69,8 +70,9 @@ impl Kernel {
         }
     }
 
+    // finish on the kernel in place.
     #[tactic(auto, using(crate::proofs::Laws::Lifecycle::finish_laws), unfolding(model::specs::Kernels::asked))]
-    fn finish_in(&mut self, id: usize) -> Result<(), Error>
+    pub fn finish_in(&mut self, id: usize) -> Result<(), Error>
         ensures does { Does self.old (Command.finish id) self.new result }
         ensures refused { OnErr result (self.new ≡ self.old) }
     {
@@ -90,8 +92,9 @@ impl Kernel {
         }
     }
 
+    // leave on the kernel in place.
     #[tactic(auto, using(crate::proofs::Laws::Lifecycle::leave_laws), unfolding(model::specs::Refusals::first))]
-    fn leave_in(&mut self, id: usize) -> Result<(), Error>
+    pub fn leave_in(&mut self, id: usize) -> Result<(), Error>
         ensures does { Does self.old (Command.leave id) self.new result }
         ensures refused { OnErr result (self.new ≡ self.old) }
     {
@@ -112,8 +115,9 @@ impl Kernel {
         }
     }
 
+    // leave_if_changed on the kernel in place.
     #[tactic(auto, using(crate::proofs::Laws::Lifecycle::leave_if_changed_laws), unfolding(model::specs::Refusals::first))]
-    fn leave_if_changed_in(&mut self, id: usize) -> Result<(), Error>
+    pub fn leave_if_changed_in(&mut self, id: usize) -> Result<(), Error>
         ensures does { Does self.old (Command.leave_if_changed id) self.new result }
         ensures refused { OnErr result (self.new ≡ self.old) }
     {
@@ -137,8 +141,9 @@ impl Kernel {
         }
     }
 
+    // retire on the kernel in place.
     #[tactic(auto, using(crate::proofs::Laws::Lifecycle::retire_laws), unfolding(model::specs::Refusals::first))]
-    fn retire_in(&mut self, id: usize) -> Result<(), Error>
+    pub fn retire_in(&mut self, id: usize) -> Result<(), Error>
         ensures does { Does self.old (Command.retire id) self.new result }
         ensures refused { OnErr result (self.new ≡ self.old) }
     {

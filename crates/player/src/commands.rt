@@ -79,10 +79,8 @@ fn detail_of(answer: Result<usize, Error>) -> u64
     answer.unwrap_or(0) as u64
 }
 
-// Plays on until the log ends, the answers are full, a byte outside 01 to 10 (11) or cut operands (12). Each command has an arm
-// of its own, so that the compiler sees which parts of the kernel it hands back unchanged and copies only the others; insert and begin
-// change more than they keep, and hand an unchanged kernel back where they refuse. The answer has a variable: with the match in its place
-// the compiler clears all that the arms hand back at each call of play.
+// Plays on until the log ends, the answers are full, a byte outside 01 to 10 (11) or cut operands (12). Each command is played on the
+// kernel in place: handed over and back by value, its 23 KB would be copied three times a command.
 pub fn play(player: Player, log: &[u8], answers: &mut [u8]) -> Player
     ensures plays { Plays player log.now answers.old result answers.new }
     ensures answered_in_bounds { result.answered ≤ length answers.old }
@@ -118,85 +116,37 @@ pub fn play(player: Player, log: &[u8], answers: &mut [u8]) -> Player
             0x01 => answer_number(add(&mut dependencies, log::port_at(operands, 0))),
             0x02 => answer_number(add(&mut provisions, log::port_at(operands, 0))),
             0x03 => {
-                let outcome = kernel.insert(log::parent(operands), dependencies, provisions);
-                if outcome.answer.is_ok() {
-                    kernel = outcome.kernel;
-                }
+                let issued = kernel.insert_in(log::parent(operands), dependencies, provisions);
                 dependencies.count = 0;
                 provisions.count = 0;
-                detail = detail_of(outcome.answer);
-                answer_number(outcome.answer)
+                detail = detail_of(issued);
+                answer_number(issued)
             }
-            0x04 => {
-                let outcome = kernel.begin(id);
-                if outcome.answer.is_ok() {
-                    kernel = outcome.kernel;
-                }
-                answer_number(outcome.answer)
-            }
-            0x05 => {
-                let outcome = kernel.finish(id);
-                kernel = outcome.kernel;
-                answer_number(outcome.answer)
-            }
-            0x06 => {
-                let outcome = kernel.leave(id);
-                kernel = outcome.kernel;
-                answer_number(outcome.answer)
-            }
-            0x07 => {
-                let outcome = kernel.leave_if_changed(id);
-                kernel = outcome.kernel;
-                answer_number(outcome.answer)
-            }
-            0x08 => {
-                let outcome = kernel.retire(id);
-                kernel = outcome.kernel;
-                answer_number(outcome.answer)
-            }
-            0x09 => {
-                let outcome = kernel.begin_cleanup(id);
-                kernel = outcome.kernel;
-                answer_number(outcome.answer)
-            }
-            0x0A => {
-                let outcome = kernel.finish_cleanup(id);
-                kernel = outcome.kernel;
-                answer_number(outcome.answer)
-            }
-            0x0B => {
-                let outcome = kernel.remove(id);
-                kernel = outcome.kernel;
-                answer_number(outcome.answer)
-            }
+            0x04 => answer_number(kernel.begin_in(id)),
+            0x05 => answer_number(kernel.finish_in(id)),
+            0x06 => answer_number(kernel.leave_in(id)),
+            0x07 => answer_number(kernel.leave_if_changed_in(id)),
+            0x08 => answer_number(kernel.retire_in(id)),
+            0x09 => answer_number(kernel.begin_cleanup_in(id)),
+            0x0A => answer_number(kernel.finish_cleanup_in(id)),
+            0x0B => answer_number(kernel.remove_in(id)),
             0x0C => {
-                let outcome = kernel.compact_bindings();
-                kernel = outcome.kernel;
-                detail = detail_of(outcome.answer);
-                answer_number(outcome.answer)
+                let removed = kernel.compact_bindings_in();
+                detail = detail_of(removed);
+                answer_number(removed)
             }
             0x0D => {
-                let outcome = kernel.compact_declarations();
-                kernel = outcome.kernel;
-                detail = detail_of(outcome.answer);
-                answer_number(outcome.answer)
+                let removed = kernel.compact_declarations_in();
+                detail = detail_of(removed);
+                answer_number(removed)
             }
-            0x0E => {
-                let outcome = kernel.declare_provision(id, log::port_at(operands, 1));
-                kernel = outcome.kernel;
-                answer_number(outcome.answer)
-            }
-            0x0F => {
-                let outcome = kernel.release_provision(id, log::port_at(operands, 1));
-                kernel = outcome.kernel;
-                answer_number(outcome.answer)
-            }
+            0x0E => answer_number(kernel.declare_provision_in(id, log::port_at(operands, 1))),
+            0x0F => answer_number(kernel.release_provision_in(id, log::port_at(operands, 1))),
             _ => {
-                let outcome = kernel.configure_pending_dependencies(id, dependencies);
-                kernel = outcome.kernel;
+                let configured = kernel.configure_pending_dependencies_in(id, dependencies);
                 dependencies.count = 0;
                 provisions.count = 0;
-                answer_number(outcome.answer)
+                answer_number(configured)
             }
         };
         answers[answered] = answer;

@@ -1,11 +1,12 @@
 -- `player::commands::play` meets its contract: the turns so far are those of the log's first commands.
 use Rattle.std.proofs.Common.{inl, inr, rules}
 use Rattle.model.proofs.Logic.{List, ◌+◌, ◌-◌, ◌<◌, ◌∙◌, ◌≡◌, ap, arith, drop, get_or, length, length-set, refl, suc, sym, ℕ}
+use Rattle.kernel.proofs.{Laws.Handed.compaction-returned, Laws.Handed.insert-returned, Laws.Handed.returned}
 use Rattle.model.specs.{Commands.Command, declared.Parent.Parent, declared.Port.Port}
 use Rattle.player.specs.{Log.operand_length, Log.parent_of, Log.port_at, Played.Item, Played.State, Played.item, Played.meanings}
-use Rattle.player.proofs.{Laws.Lent.all_there, Laws.Lent.behind-lent, Laws.Lent.is_known, Laws.Lent.is_not-known, Laws.Lent.lent-is, Laws.Lent.short, Laws.Playing.playing-last, Laws.Playing.playing_over, Laws.Playing.playing_start, Laws.Playing.playing-steps, Laws.Playing.state, Laws.Runs.ended, Laws.Turns.Steps, Laws.Turns.compaction-done, Laws.Turns.cut-turn, Laws.Turns.dependency-steps, Laws.Turns.insert-done, Laws.Turns.listing-done, Laws.Turns.plain_done, Laws.Turns.provision-steps, Laws.Turns.refused-kept, Laws.Turns.sixteenth, Laws.Turns.unknown-turn, Laws.Turns.whole_item}
+use Rattle.player.proofs.{Laws.Lent.all_there, Laws.Lent.behind-lent, Laws.Lent.is_known, Laws.Lent.is_not-known, Laws.Lent.lent-is, Laws.Lent.short, Laws.Playing.playing-last, Laws.Playing.playing_over, Laws.Playing.playing_start, Laws.Playing.playing-steps, Laws.Playing.state, Laws.Runs.ended, Laws.Turns.Steps, Laws.Turns.compaction-done, Laws.Turns.cut-turn, Laws.Turns.dependency-steps, Laws.Turns.insert-done, Laws.Turns.listing-done, Laws.Turns.plain_done, Laws.Turns.provision-steps, Laws.Turns.sixteenth, Laws.Turns.unknown-turn, Laws.Turns.whole_item}
 use Rattle.player.proofs.commands.play.Goals as goal
-use Rattle.player.proofs.commands.play.Goals.{in-1, in-2, in-3, then-is_ok, else-is_ok, in-4, then-is_ok-2, else-is_ok-2, in-5, in-6, in-7, in-8, in-9, in-10, in-11, in-12, in-13, in-14, in-15, in_default-byte, Joined-byte}
+use Rattle.player.proofs.commands.play.Goals.{in-1, in-2, in-3, in-4, in-5, in-6, in-7, in-8, in-9, in-10, in-11, in-12, in-13, in-14, in-15, in_default-byte, Joined-byte}
 
 pub loop-at-init : goal.loop-at-init
 loop-at-init c = (omega arith, omega arith, playing_start _ _ _)
@@ -55,71 +56,61 @@ arm c =
           (meant 2 w.in-2.is ∙ ap Item.provision (sym w.port_at-in-2.ensures))
           w.kernel-is w.dependencies-is (w.provisions-is ∙ w.add-in-2.ensures.added) w.detail-is (w.answer-is ∙ w.answer_number-answer-in-2.ensures ∙ w.add-in-2.ensures.answer)
       | in-3 w ↦
-          let kernel : c.match-byte.kernel ≡ w.insert-outcome.result.kernel =
-          w.kernel-is ∙ (elim w.if-is_ok.branch [
-            | then-is_ok w' ↦ w'.kernel-is
-            | else-is_ok w' ↦ w'.kernel-is ∙ refused-kept _ w.insert-outcome.ensures.1.2 (sym w.is_ok.ensures.value ∙ w'.if-is_ok.false)
-          ]) in
-          insert-done s b rest (insert w.parent.result) (λ T. refl) w.insert-outcome.ensures
+          insert-done s b rest (insert w.parent.result) (λ T. refl) (insert-returned _ _ w.insert_in-issued.ensures.does w.insert_in-issued.ensures.refused)
           (w.answer-is ∙ w.answer_number-answer-in-3.ensures) (w.detail-is ∙ w.detail_of-detail.ensures) (inserts w.in-3.is w.parent.result w.parent.ensures)
-          kernel w.dependencies-is w.provisions-is
+          w.kernel-is w.dependencies-is w.provisions-is
       | in-4 w ↦
-          let kernel : c.match-byte.kernel ≡ w.begin-outcome.result.kernel =
-          w.kernel-is ∙ (elim w.if-is_ok-2.branch [
-            | then-is_ok-2 w' ↦ w'.kernel-is
-            | else-is_ok-2 w' ↦ w'.kernel-is ∙ refused-kept _ w.begin-outcome.ensures.1.2 (sym w.is_ok-in-4.ensures.value ∙ w'.if-is_ok-2.false)
-          ]) in
-          plain_done s b rest (Command.begin id) (λ T. refl) w.begin-outcome.ensures
+          plain_done s b rest (Command.begin id) (λ T. refl) (returned _ _ w.begin_in.ensures.does w.begin_in.ensures.refused)
           (w.answer-is ∙ w.answer_number-answer-in-4.ensures) w.detail-is (meant 4 w.in-4.is ∙ of (λ n. Item.plain (Command.begin n)))
-          kernel w.dependencies-is w.provisions-is
+          w.kernel-is w.dependencies-is w.provisions-is
       | in-5 w ↦
-          plain_done s b rest (Command.finish id) (λ T. refl) w.finish-outcome.ensures
+          plain_done s b rest (Command.finish id) (λ T. refl) (returned _ _ w.finish_in.ensures.does w.finish_in.ensures.refused)
           (w.answer-is ∙ w.answer_number-answer-in-5.ensures) w.detail-is (meant 5 w.in-5.is ∙ of (λ n. Item.plain (Command.finish n)))
           w.kernel-is w.dependencies-is w.provisions-is
       | in-6 w ↦
-          plain_done s b rest (Command.leave id) (λ T. refl) w.leave-outcome.ensures
+          plain_done s b rest (Command.leave id) (λ T. refl) (returned _ _ w.leave_in.ensures.does w.leave_in.ensures.refused)
           (w.answer-is ∙ w.answer_number-answer-in-6.ensures) w.detail-is (meant 6 w.in-6.is ∙ of (λ n. Item.plain (Command.leave n)))
           w.kernel-is w.dependencies-is w.provisions-is
       | in-7 w ↦
-          plain_done s b rest (Command.leave_if_changed id) (λ T. refl) w.leave_if_changed-outcome.ensures
+          plain_done s b rest (Command.leave_if_changed id) (λ T. refl) (returned _ _ w.leave_if_changed_in.ensures.does w.leave_if_changed_in.ensures.refused)
           (w.answer-is ∙ w.answer_number-answer-in-7.ensures) w.detail-is (meant 7 w.in-7.is ∙ of (λ n. Item.plain (Command.leave_if_changed n)))
           w.kernel-is w.dependencies-is w.provisions-is
       | in-8 w ↦
-          plain_done s b rest (Command.retire id) (λ T. refl) w.retire-outcome.ensures
+          plain_done s b rest (Command.retire id) (λ T. refl) (returned _ _ w.retire_in.ensures.does w.retire_in.ensures.refused)
           (w.answer-is ∙ w.answer_number-answer-in-8.ensures) w.detail-is (meant 8 w.in-8.is ∙ of (λ n. Item.plain (Command.retire n)))
           w.kernel-is w.dependencies-is w.provisions-is
       | in-9 w ↦
-          plain_done s b rest (Command.begin_cleanup id) (λ T. refl) w.begin_cleanup-outcome.ensures
+          plain_done s b rest (Command.begin_cleanup id) (λ T. refl) (returned _ _ w.begin_cleanup_in.ensures.does w.begin_cleanup_in.ensures.refused)
           (w.answer-is ∙ w.answer_number-answer-in-9.ensures) w.detail-is (meant 9 w.in-9.is ∙ of (λ n. Item.plain (Command.begin_cleanup n)))
           w.kernel-is w.dependencies-is w.provisions-is
       | in-10 w ↦
-          plain_done s b rest (Command.finish_cleanup id) (λ T. refl) w.finish_cleanup-outcome.ensures
+          plain_done s b rest (Command.finish_cleanup id) (λ T. refl) (returned _ _ w.finish_cleanup_in.ensures.does w.finish_cleanup_in.ensures.refused)
           (w.answer-is ∙ w.answer_number-answer-in-10.ensures) w.detail-is (meant 10 w.in-10.is ∙ of (λ n. Item.plain (Command.finish_cleanup n)))
           w.kernel-is w.dependencies-is w.provisions-is
       | in-11 w ↦
-          plain_done s b rest (Command.remove id) (λ T. refl) w.remove-outcome.ensures
+          plain_done s b rest (Command.remove id) (λ T. refl) (returned _ _ w.remove_in.ensures.does w.remove_in.ensures.refused)
           (w.answer-is ∙ w.answer_number-answer-in-11.ensures) w.detail-is (meant 11 w.in-11.is ∙ of (λ n. Item.plain (Command.remove n)))
           w.kernel-is w.dependencies-is w.provisions-is
       | in-12 w ↦
-          compaction-done s b rest Command.compact_bindings (λ T. refl) w.compact_bindings-outcome.ensures
+          compaction-done s b rest Command.compact_bindings (λ T. refl) (compaction-returned _ _ w.compact_bindings_in-removed.ensures.does w.compact_bindings_in-removed.ensures.refused)
           (w.answer-is ∙ w.answer_number-answer-in-12.ensures) (w.detail-is ∙ w.detail_of-detail-in-12.ensures) (meant 12 w.in-12.is)
           w.kernel-is w.dependencies-is w.provisions-is
       | in-13 w ↦
-          compaction-done s b rest Command.compact_declarations (λ T. refl) w.compact_declarations-outcome.ensures
+          compaction-done s b rest Command.compact_declarations (λ T. refl) (compaction-returned _ _ w.compact_declarations_in-removed.ensures.does w.compact_declarations_in-removed.ensures.refused)
           (w.answer-is ∙ w.answer_number-answer-in-13.ensures) (w.detail-is ∙ w.detail_of-detail-in-13.ensures) (meant 13 w.in-13.is)
           w.kernel-is w.dependencies-is w.provisions-is
       | in-14 w ↦
-          plain_done s b rest (Command.declare_provision id w.port_at-in-14.result) (λ T. refl) w.declare_provision-outcome.ensures
+          plain_done s b rest (Command.declare_provision id w.port_at-in-14.result) (λ T. refl) (returned _ _ w.declare_provision_in.ensures.does w.declare_provision_in.ensures.refused)
           (w.answer-is ∙ w.answer_number-answer-in-14.ensures) w.detail-is
           (meant 14 w.in-14.is ∙ with-port Command.declare_provision w.port_at-in-14.result w.port_at-in-14.ensures)
           w.kernel-is w.dependencies-is w.provisions-is
       | in-15 w ↦
-          plain_done s b rest (Command.release_provision id w.port_at-in-15.result) (λ T. refl) w.release_provision-outcome.ensures
+          plain_done s b rest (Command.release_provision id w.port_at-in-15.result) (λ T. refl) (returned _ _ w.release_provision_in.ensures.does w.release_provision_in.ensures.refused)
           (w.answer-is ∙ w.answer_number-answer-in-15.ensures) w.detail-is
           (meant 15 w.in-15.is ∙ with-port Command.release_provision w.port_at-in-15.result w.port_at-in-15.ensures)
           w.kernel-is w.dependencies-is w.provisions-is
       | in_default-byte w ↦
-          listing-done s b rest (Command.configure_pending_dependencies id s.dependencies) (λ T. refl) w.configure_pending_dependencies-outcome.ensures
+          listing-done s b rest (Command.configure_pending_dependencies id s.dependencies) (λ T. refl) (returned _ _ w.configure_pending_dependencies_in-configured.ensures.does w.configure_pending_dependencies_in-configured.ensures.refused)
           (w.answer-is ∙ w.answer_number-answer-in_default-byte.ensures) w.detail-is
           (meant 16 (sixteenth b known (search rules)) ∙ of (λ n. Item.listing (Command.configure_pending_dependencies n s.dependencies)))
           w.kernel-is w.dependencies-is w.provisions-is
