@@ -1,5 +1,5 @@
 -- The answers of a run written one behind the other: what holds at the head of the player's loop.
-use Rattle.model.proofs.Logic.{List, [], ◌++◌, ◌+◌, ◌-◌, ◌<◌, ◌∙◌, ◌∷◌, ◌≡◌, add-one, ap, append-nil, append_snoc, arith, drop, drop-cons, get_or, length, length-append, length-map, map-append, refl, set, set-append_seam, suc, sym, take, take_all, true, ℕ}
+use Rattle.model.proofs.Logic.{List, [], ◌++◌, ◌+◌, ◌-◌, ◌<◌, ◌∙◌, ◌∷◌, ◌≡◌, ◌≤◌, add-one, ap, append-nil, append_snoc, arith, drop, drop-cons, get_or, length, length-append, length-map, map-append, refl, set, set-append_seam, suc, sym, take, take_all, true, ℕ}
 use lib.Seq.{take-nil}
 use Rattle.kernel.specs.{declared.Kernel.Kernel}
 use Rattle.model.specs.{declared.PortList.PortList}
@@ -98,6 +98,10 @@ module _ {s₀ s : State} {all rest : List Turn} {out₀ out : List ℕ} {answer
   -- nothing is left
   pub playing_over : rest ≡ [] → Over
   playing_over e = over (ap (take (length out₀ - answered)) e ∙ take-nil (length out₀ - answered))
+
+  -- or there is no room for it
+  pub playing_full : length out₀ ≤ answered → Over
+  playing_full l = let none : length out₀ - answered ≡ 0 = omega arith in over (ap (λ (n : ℕ). take n rest) none)
 
 -- the loop's turn, by what its arm gives
 pub playing-steps :
