@@ -1,3 +1,4 @@
+pub mod Gathered
 pub mod Log
 pub mod Played
 pub mod Players

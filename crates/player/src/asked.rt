@@ -1,4 +1,5 @@
 // For Rust, what is asked of the kernels that a log's commands leave: drains, and who is hit if a component leaves.
+ghost use Rattle.player.specs.Gathered.{Gathers};
 ghost use Rattle.std.specs.Prelude.{◌≤◌, length};
 
 use crate::commands::Player;
@@ -6,7 +7,9 @@ use crate::put::Bytes;
 use crate::{drains, lists, log, turns};
 
 // 1 asks for the drain, 2 for the drain that is played too, 3 for the list of each identity; anything else for nothing.
-fn wanted(out: &mut Bytes, player: &Player, wanted: u8) {
+fn wanted(out: &mut Bytes, player: &Player, wanted: u8)
+    ensures { Gathers out.old out.new }
+{
     match wanted {
         1 => drains::drained(out, player, false),
         2 => drains::drained(out, player, true),

@@ -1,4 +1,5 @@
 // Drains: the steps as a log, and a drain with what stop hands back as bytes.
+ghost use Rattle.player.specs.Gathered.{Gathers};
 ghost use Rattle.std.specs.Prelude.{◌≤◌, length};
 
 use crate::commands::{Player, play};
@@ -27,7 +28,7 @@ pub fn play_drain(player: Player, drain: Drain, answers: &mut [u8]) -> Player
         steps.byte(byte_of(step.command));
         steps.small(step.id);
     }
-    let end = steps.len().min(log.len());
+    let end = steps.len();
     play(Player { at: 0, ..player }, &log[..end], answers)
 }
 
@@ -44,7 +45,9 @@ fn drain_or_none(drain: Result<Drain, Error>) -> Drain {
 }
 
 // All 192 steps, those past the count too: a command byte and an identity for each.
-fn steps(out: &mut Bytes, drain: &Drain) {
+fn steps(out: &mut Bytes, drain: &Drain)
+    ensures { Gathers out.old out.new }
+{
     for step in drain.steps.iter() {
         out.byte(byte_of(step.command));
         out.word(step.id as u64);
@@ -52,7 +55,9 @@ fn steps(out: &mut Bytes, drain: &Drain) {
 }
 
 // The drain played: how many answers, each of them, and the tables.
-fn played(out: &mut Bytes, player: &Player, drain: Drain) {
+fn played(out: &mut Bytes, player: &Player, drain: Drain)
+    ensures { Gathers out.old out.new }
+{
     let mut answers = [0; STEPS];
     let played = play_drain(*player, drain, &mut answers);
     out.half(played.answered);
@@ -62,7 +67,9 @@ fn played(out: &mut Bytes, player: &Player, drain: Drain) {
 
 // The drain of the player's kernel: its answer, its count and its steps, what stop hands back (its answer, its count and the tables) and, if asked, the drain
 // played.
-pub fn drained(out: &mut Bytes, player: &Player, play: bool) {
+pub fn drained(out: &mut Bytes, player: &Player, play: bool)
+    ensures { Gathers out.old out.new }
+{
     let drain = drain::drain(&player.kernel);
     out.head(drain.map(|drain| drain.count));
     let drain = drain_or_none(drain);

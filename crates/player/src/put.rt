@@ -1,5 +1,6 @@
 // Bytes put into a lent slice one behind another; one past the end is left out. Numbers stand least byte first.
 ghost use Rattle.std.specs.Prelude.{◌≡◌, ◌+◌, length};
+ghost use Rattle.player.specs.Gathered.{Gathers};
 ghost use Rattle.text.specs.Written.{Puts};
 
 use model::{Binding, Error, Port};
@@ -9,7 +10,11 @@ use text::Text;
 pub struct Bytes<'a>(Text<'a>);
 
 impl<'a> Bytes<'a> {
-    pub fn new(out: &'a mut [u8]) -> Self {
+    pub fn new(out: &'a mut [u8]) -> Self
+        ensures same_reference { result.0.bytes.ghost_name ≡ out.entry.ghost_name }
+        ensures same { result.0.bytes.now ≡ out.old }
+        ensures empty { result.0.len ≡ 0 }
+    {
         Bytes(Text::new(out))
     }
 
@@ -34,47 +39,65 @@ impl<'a> Bytes<'a> {
         self.0.put(bytes);
     }
 
-    pub fn byte(&mut self, byte: u8) {
+    pub fn byte(&mut self, byte: u8)
+        ensures { Gathers self.old self.new }
+    {
         self.put(&[byte]);
     }
 
     // 1 for yes, 0 for no.
-    pub fn flag(&mut self, flag: bool) {
+    pub fn flag(&mut self, flag: bool)
+        ensures { Gathers self.old self.new }
+    {
         self.byte(u8::from(flag));
     }
 
     // A number's low byte.
-    pub fn small(&mut self, number: usize) {
+    pub fn small(&mut self, number: usize)
+        ensures { Gathers self.old self.new }
+    {
         self.put(&number.to_le_bytes()[..1]);
     }
 
     // Its two low bytes.
-    pub fn half(&mut self, number: usize) {
+    pub fn half(&mut self, number: usize)
+        ensures { Gathers self.old self.new }
+    {
         self.put(&number.to_le_bytes()[..2]);
     }
 
-    pub fn word(&mut self, number: u64) {
+    pub fn word(&mut self, number: u64)
+        ensures { Gathers self.old self.new }
+    {
         self.put(&number.to_le_bytes());
     }
 
     // 1 and the number, or 0 and 0.
-    pub fn optional(&mut self, number: Option<u64>) {
+    pub fn optional(&mut self, number: Option<u64>)
+        ensures { Gathers self.old self.new }
+    {
         self.flag(number.is_some());
         self.word(number.unwrap_or(0));
     }
 
-    pub fn port(&mut self, port: Port) {
+    pub fn port(&mut self, port: Port)
+        ensures { Gathers self.old self.new }
+    {
         self.word(port.key);
         self.word(port.realm);
     }
 
-    pub fn binding(&mut self, binding: Binding) {
+    pub fn binding(&mut self, binding: Binding)
+        ensures { Gathers self.old self.new }
+    {
         self.port(Port::from(binding));
         self.word(binding.provider as u64);
     }
 
     // An answer's number and its count, 0 where it is refused.
-    pub fn head(&mut self, answer: Result<usize, Error>) {
+    pub fn head(&mut self, answer: Result<usize, Error>)
+        ensures { Gathers self.old self.new }
+    {
         self.byte(records::answer_number(answer));
         self.half(answer.unwrap_or(0));
     }

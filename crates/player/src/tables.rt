@@ -1,4 +1,5 @@
 // The part of a record that every command has: its detail, the counts and the records below them.
+ghost use Rattle.player.specs.Gathered.{Gathers};
 ghost use Rattle.std.specs.Prelude.{◌≡◌};
 ghost use Rattle.player.specs.Log.{phase_number};
 
@@ -13,14 +14,18 @@ pub fn phase_number(phase: Phase) -> u8
     phase as u8
 }
 
-fn parent(out: &mut Bytes, parent: Parent) {
+fn parent(out: &mut Bytes, parent: Parent)
+    ensures { Gathers out.old out.new }
+{
     out.optional(match parent {
         Parent::Of(id) => Some(id as u64),
         Parent::None => None,
     });
 }
 
-fn node(out: &mut Bytes, node: &Node) {
+fn node(out: &mut Bytes, node: &Node)
+    ensures { Gathers out.old out.new }
+{
     out.flag(node.present);
     out.flag(node.retired);
     out.byte(phase_number(node.phase));
@@ -29,13 +34,17 @@ fn node(out: &mut Bytes, node: &Node) {
     out.word(node.generation);
 }
 
-fn declaration(out: &mut Bytes, declaration: &Declaration) {
+fn declaration(out: &mut Bytes, declaration: &Declaration)
+    ensures { Gathers out.old out.new }
+{
     out.word(u64::from(declaration.owner));
     out.port(declaration.port);
     out.flag(declaration.provides);
 }
 
-fn link(out: &mut Bytes, link: &Link) {
+fn link(out: &mut Bytes, link: &Link)
+    ensures { Gathers out.old out.new }
+{
     out.word(u64::from(link.consumer));
     out.binding(records::binding_in(*link));
     out.flag(link.live);
@@ -43,7 +52,9 @@ fn link(out: &mut Bytes, link: &Link) {
 }
 
 // The counts and the records below them.
-pub fn of(out: &mut Bytes, kernel: &Kernel) {
+pub fn of(out: &mut Bytes, kernel: &Kernel)
+    ensures { Gathers out.old out.new }
+{
     out.half(kernel.node_count);
     out.half(kernel.declaration_count);
     out.half(kernel.link_count);
@@ -58,7 +69,9 @@ pub fn of(out: &mut Bytes, kernel: &Kernel) {
     }
 }
 
-pub fn all(out: &mut Bytes, player: &Player) {
+pub fn all(out: &mut Bytes, player: &Player)
+    ensures { Gathers out.old out.new }
+{
     out.word(player.detail);
     of(out, &player.kernel);
 }

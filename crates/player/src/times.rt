@@ -1,11 +1,14 @@
 // For measuring: what is asked of the kernel that a log leaves, many times.
+ghost use Rattle.player.specs.Gathered.{Gathers};
 ghost use Rattle.std.specs.Prelude.{◌≤◌, length};
 
 use crate::put::Bytes;
 use kernel::Kernel;
 
 // What 0 is the drain, 1 the stop, another number who is hit if the component leaves: the answer and the count.
-fn said(out: &mut Bytes, kernel: &Kernel, what: usize, id: usize) {
+fn said(out: &mut Bytes, kernel: &Kernel, what: usize, id: usize)
+    ensures { Gathers out.old out.new }
+{
     out.head(match what {
         0 => drain::drain(kernel).map(|drain| drain.count),
         1 => drain::stop(*kernel).answer,
@@ -24,5 +27,5 @@ pub fn nobrighi_times(log: &[u8], what: usize, id: usize, times: usize, out: &mu
         said(&mut bytes, &player.kernel, what, id);
         written = bytes.len();
     }
-    written.min(out.len())
+    written
 }

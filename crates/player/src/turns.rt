@@ -1,4 +1,5 @@
 // For Rust, something put behind each command of a log.
+ghost use Rattle.player.specs.Gathered.{Gathers};
 ghost use Rattle.std.specs.Prelude.{◌≤◌, length};
 
 use crate::commands::{Player, start};
@@ -17,10 +18,10 @@ pub struct Turn<'a> {
 
 // Plays the log command by command, also an 11 or a 12, while there is room, and puts something behind each. Gives how many bytes were put.
 pub fn each<F: Fn(&mut Bytes, Turn)>(log: &[u8], out: &mut [u8], put: F) -> usize
-    requires { F.IsAlwaysCallable put }
+    requires callable { F.IsAlwaysCallable put }
+    requires gathers { (before : _) (turn : _) (after : _) → F.post put before turn tt after → Gathers before.now after.now }
     ensures { result ≤ length out.old }
 {
-    let size = out.len();
     let mut out = Bytes::new(out);
     let mut player = start();
     for index in 0..log.len() {
@@ -40,5 +41,5 @@ pub fn each<F: Fn(&mut Bytes, Turn)>(log: &[u8], out: &mut [u8], put: F) -> usiz
             break;
         }
     }
-    out.len().min(size)
+    out.len()
 }

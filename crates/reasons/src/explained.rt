@@ -1,5 +1,6 @@
 // For Rust, the explanation of each command of a log as bytes, all of the same length.
 ghost use Rattle.std.specs.Prelude.{◌≤◌, length};
+ghost use Rattle.player.specs.Gathered.{Gathers};
 
 use crate::said::{LogExplanation, why_next};
 use model::{Binding, LinkAt, Measured, Repeat, Resolution, Unresolved, Witness};
@@ -77,7 +78,9 @@ fn numbered(witness: Witness) -> Found {
     Found { kind, numbers }
 }
 
-fn record(out: &mut Bytes, answer: u8, place: u8, test: usize, found: Found) {
+fn record(out: &mut Bytes, answer: u8, place: u8, test: usize, found: Found)
+    ensures { Gathers out.old out.new }
+{
     out.byte(answer);
     out.byte(place);
     out.small(test);
@@ -96,7 +99,9 @@ fn full(count: usize) -> Found {
 }
 
 // What is said of a command; nothing of none.
-pub fn written(out: &mut Bytes, why: LogExplanation) {
+pub fn written(out: &mut Bytes, why: LogExplanation)
+    ensures { Gathers out.old out.new }
+{
     match why {
         LogExplanation::NoCommand => {}
         LogExplanation::Unknown => record(out, 11, LOG, 1, NOTHING),
@@ -120,7 +125,6 @@ pub fn written(out: &mut Bytes, why: LogExplanation) {
 pub fn nobrighi_explained(log: &[u8], out: &mut [u8]) -> usize
     ensures { result ≤ length out.old }
 {
-    let size = out.len();
     let mut out = Bytes::new(out);
     let mut player = start();
     for _ in 0..log.len() {
@@ -132,5 +136,5 @@ pub fn nobrighi_explained(log: &[u8], out: &mut [u8]) -> usize
             break;
         }
     }
-    out.len().min(size)
+    out.len()
 }

@@ -1,5 +1,6 @@
 // For measuring: a log's next command explained, and played, many times.
 ghost use Rattle.std.specs.Prelude.{◌≤◌, length};
+ghost use Rattle.player.specs.Gathered.{Gathers};
 
 use crate::explained::written;
 use crate::said::{LogExplanation, call_of};
@@ -17,13 +18,17 @@ fn next_call(player: &Player, log: &[u8]) -> Call {
 }
 
 // The next command played on a copy, if there is room for its answer.
-fn played(out: &mut Bytes, player: &Player, log: &[u8], answers: &mut [u8]) {
+fn played(out: &mut Bytes, player: &Player, log: &[u8], answers: &mut [u8])
+    ensures { Gathers out.old out.new }
+{
     let next = play(*player, log, answers);
     out.put(&answers[..next.answered]);
 }
 
 // What 0 is the player's next command explained, 1 the command, another number the copy that it is played on.
-fn of_next(out: &mut Bytes, player: &Player, call: Call, log: &[u8], what: usize) {
+fn of_next(out: &mut Bytes, player: &Player, call: Call, log: &[u8], what: usize)
+    ensures { Gathers out.old out.new }
+{
     match what {
         0 => written(out, LogExplanation::Command(explain(&player.kernel, call))),
         1 => played(out, player, log, &mut [0]),
@@ -44,5 +49,5 @@ pub fn nobrighi_explain_times(log: &[u8], what: usize, times: usize, out: &mut [
         of_next(&mut bytes, &player, call, log, what);
         written = bytes.len();
     }
-    written.min(out.len())
+    written
 }
