@@ -37,15 +37,15 @@ fn node(out: &mut Bytes, node: &Node)
 fn declaration(out: &mut Bytes, declaration: &Declaration)
     ensures { Gathers out.old out.new }
 {
-    out.word(u64::from(declaration.owner));
-    out.port(declaration.port);
+    out.word(records::owner_in(*declaration) as u64);
+    out.port(records::declared_port(*declaration));
     out.flag(declaration.provides);
 }
 
 fn link(out: &mut Bytes, link: &Link)
     ensures { Gathers out.old out.new }
 {
-    out.word(u64::from(link.consumer));
+    out.word(records::consumer_in(*link) as u64);
     out.binding(records::binding_in(*link));
     out.flag(link.live);
     out.word(link.generation);
