@@ -48,6 +48,13 @@ pub puts_then :
 puts_then xs ys out at (p, a) (q, b) =
     (q ∙ rw (p, a) (written_then at xs ys out), omega (arith, length-append xs ys, ap length p ∙ length-written_at at xs out))
 
+-- the buffer is as long as it was, and the place behind a text is within it
+pub puts_length : (bytes out : List ℕ) (at : ℕ) {out' : List ℕ} {at' : ℕ} → Puts bytes out at out' at' → length out' ≡ length out
+puts_length bytes out at (p, a) = ap length p ∙ length-written_at at bytes out
+
+pub puts_within : (bytes out : List ℕ) (at : ℕ) {out' : List ℕ} {at' : ℕ} → Puts bytes out at out' at' → at' ≤ length out
+puts_within bytes out at (p, a) = omega arith
+
 -- ---- a number's digits
 
 -- a number below ten is its digit; another's last digit stands behind the others
