@@ -1,6 +1,11 @@
--- A word as a number.
-use Rattle.std.specs.Prelude.{ℕ, ◌+◌, ◌-◌, ◌*◌, Bool, cond, ◌&&◌, ltb, List, [], ◌∷◌, length, nat_lt}
+-- A row of names, and a word as a number.
+use Rattle.std.specs.Prelude.{ℕ, suc, ◌+◌, ◌-◌, ◌*◌, Bool, cond, ◌&&◌, ltb, List, [], ◌∷◌, length, ◌==◌, nat_lt}
 use Rattle.model.specs.Lists.{all}
+
+-- how many names a row has, a space after each
+unfoldable pub names_in : List ℕ → ℕ
+names_in [] = 0
+names_in (byte ∷ bytes) = cond (byte == 32) (suc (names_in bytes)) (names_in bytes)
 
 -- the largest number of eight bytes
 abbrev pub most : ℕ

@@ -1,8 +1,8 @@
 // The words of a line: its name, and behind it its operands.
-ghost use Rattle.std.specs.Prelude.{◌≡◌, ◌+◌, ◌*◌, ◌≤◌, IfSome, cond, is_some, ltb, None, Some, length};
+ghost use Rattle.std.specs.Prelude.{◌≡◌, ◌+◌, ◌*◌, ◌<◌, ◌≤◌, ℕ, IfSome, cond, is_some, ltb, None, Some, length};
 ghost use Rattle.loops.specs.Limits.{AtMost};
-ghost use Rattle.text.specs.Words.{digit_of, is_number, most, with_digits};
-ghost use Rattle.text.specs.Operands.{number_of};
+ghost use Rattle.text.specs.Words.{digit_of, is_number, most, names_in, with_digits};
+ghost use Rattle.text.specs.Operands.{number_of, operand};
 
 // An operand: a number, a phase as its place among the four, or `-`.
 #[derive(Clone, Copy)]
@@ -34,6 +34,24 @@ pub fn word(line: &[u8], k: usize) -> &[u8]
     ensures { length result.now ≤ length line.now }
 {
     line.split(|byte| *byte == b' ').nth(k).unwrap_or(&[])
+}
+
+// The place of a word in a row of names, a space after each; past them, which is their number, if it is none of them.
+pub fn place_of(names: &[u8], word: &[u8]) -> usize
+    ensures { result ≤ names_in names.now }
+{
+    let mut place = 0;
+    let mut start = 0;
+    for (i, byte) in names.iter().enumerate() {
+        if *byte == b' ' {
+            if &names[start..i] == word {
+                break;
+            }
+            place += 1;
+            start = i + 1;
+        }
+    }
+    place
 }
 
 // The value of a digit.
@@ -81,12 +99,18 @@ fn operand_of(word: &[u8]) -> Option<Operand> {
 
 impl Line {
     // The operands of a line, up to an empty word; none if they are not this many, or one is no operand.
-    pub fn read(line: &[u8], count: usize) -> Option<Line> {
+    pub fn read(line: &[u8], count: usize) -> Option<Line>
+        ensures room { IfSome result (λ line. count ≤ 7) }
+        ensures rest { IfSome result (λ line. (k : ℕ) → count ≤ k → k < 7 → operand line k ≡ 0) }
+    {
         let words = line.split(|byte| *byte == b' ').skip(1);
         let mut operands = [Operand::Number(0); 7];
         let mut known = 0;
         for word in words.take_while(|word| !word.is_empty()) {
-            *operands.get_mut(known)? = operand_of(word)?;
+            if known == operands.len() {
+                return None;
+            }
+            operands[known] = operand_of(word)?;
             known += 1;
         }
         (known == count).then_some(Line { operands })
