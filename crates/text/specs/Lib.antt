@@ -1,3 +1,4 @@
+pub mod Explained
 pub mod Logs
 pub mod Made
 pub mod Operands

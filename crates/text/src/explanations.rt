@@ -1,4 +1,10 @@
 // The explanation of a command or a check in words: that it is accepted, or the refusal, its place and its test, and what the test found.
+ghost use Rattle.std.specs.Prelude.{◌≡◌, ◌≤◌, length};
+ghost use Rattle.std.specs.Bool.{OnTrue};
+ghost use Rattle.text.specs.Explained.{explained_text, test_words};
+ghost use Rattle.text.specs.Written.{Puts};
+
+use crate::Text;
 use crate::answers::RefusedLine;
 use crate::status::{KeyRealm, Missing};
 use model::{
@@ -7,7 +13,9 @@ use model::{
 use std::fmt;
 
 // What a place's test says; its last stands for any further number.
-fn test_said(place: Place, test: usize) -> &'static str {
+fn test_said(place: Place, test: usize) -> &'static str
+    ensures { result.now ≡ test_words place test }
+{
     match (place, test) {
         (Place::Entry, _) => "the kernel is not sound",
         (Place::Lists, _) => "a list is over 32",
@@ -44,11 +52,33 @@ fn test_said(place: Place, test: usize) -> &'static str {
     }
 }
 
+// A place's test with its number.
+#[derive(Clone, Copy)]
+struct Tested(Place, usize);
+
+impl fmt::Display for Tested {
+    ghost use Rattle.std.specs.Prelude.{Some};
+    ghost use Rattle.text.specs.Explained.{test_text};
+
+    ghost output = { λ t. Some (test_text t.0 t.1) };
+
+    fn fmt<W: fmt::Write>(&self, f: &mut fmt::Formatter<W>) -> fmt::Result {
+        let Tested(place, test) = *self;
+        let said = test_said(place, test);
+        write!(f, "place: {place}, test {test}, {said}")
+    }
+}
+
 // A live link: its place, its consumer, its port and its provider.
 #[derive(Clone, Copy)]
 struct InWay(LinkAt);
 
 impl fmt::Display for InWay {
+    ghost use Rattle.std.specs.Prelude.{Some};
+    ghost use Rattle.text.specs.Explained.{link_text};
+
+    ghost output = { λ l. Some (link_text l.0) };
+
     fn fmt<W: fmt::Write>(&self, f: &mut fmt::Formatter<W>) -> fmt::Result {
         let LinkAt {
             place,
@@ -69,6 +99,11 @@ impl fmt::Display for InWay {
 struct Clash(Binding);
 
 impl fmt::Display for Clash {
+    ghost use Rattle.std.specs.Prelude.{Some};
+    ghost use Rattle.text.specs.Explained.{clash_text};
+
+    ghost output = { λ c. Some (clash_text c.0) };
+
     fn fmt<W: fmt::Write>(&self, f: &mut fmt::Formatter<W>) -> fmt::Result {
         let port = KeyRealm(Port::from(self.0));
         write!(f, "{port} is provided by {}", self.0.provider)
@@ -80,6 +115,11 @@ impl fmt::Display for Clash {
 struct SamePort(Repeat);
 
 impl fmt::Display for SamePort {
+    ghost use Rattle.std.specs.Prelude.{Some};
+    ghost use Rattle.text.specs.Explained.{repeat_text};
+
+    ghost output = { λ r. Some (repeat_text r.0) };
+
     fn fmt<W: fmt::Write>(&self, f: &mut fmt::Formatter<W>) -> fmt::Result {
         let Repeat {
             list,
@@ -95,6 +135,11 @@ impl fmt::Display for SamePort {
 struct Compared(Measured);
 
 impl fmt::Display for Compared {
+    ghost use Rattle.std.specs.Prelude.{Some};
+    ghost use Rattle.text.specs.Explained.{measured_text};
+
+    ghost output = { λ m. Some (measured_text m.0) };
+
     fn fmt<W: fmt::Write>(&self, f: &mut fmt::Formatter<W>) -> fmt::Result {
         let Measured { measure, number } = self.0;
         match measure {
@@ -112,6 +157,11 @@ impl fmt::Display for Compared {
 struct Found(Witness);
 
 impl fmt::Display for Found {
+    ghost use Rattle.std.specs.Prelude.{Some};
+    ghost use Rattle.text.specs.Explained.{witness_text};
+
+    ghost output = { λ w. Some (witness_text w.0) };
+
     fn fmt<W: fmt::Write>(&self, f: &mut fmt::Formatter<W>) -> fmt::Result {
         match self.0 {
             Witness::Nothing => Ok(()),
@@ -131,6 +181,11 @@ impl fmt::Display for Found {
 pub struct Explained<'a>(pub &'a Result<(), Refusal>, pub &'a str);
 
 impl fmt::Display for Explained<'_> {
+    ghost use Rattle.std.specs.Prelude.{Some};
+    ghost use Rattle.text.specs.Explained.{explained_text};
+
+    ghost output = { λ e. Some (explained_text e.0.now e.1.now) };
+
     fn fmt<W: fmt::Write>(&self, f: &mut fmt::Formatter<W>) -> fmt::Result {
         let Explained(explanation, between) = *self;
         let Err(refusal) = explanation else {
@@ -142,12 +197,43 @@ impl fmt::Display for Explained<'_> {
             test,
             witness,
         } = *refusal;
-        let (refused, said) = (RefusedLine(error), test_said(place, test));
-        write!(f, "{refused}{between}place: {place}, test {test}, {said}")?;
+        let (refused, tested) = (RefusedLine(error), Tested(place, test));
+        write!(f, "{refused}{between}{tested}")?;
         match witness {
             Witness::Nothing => Ok(()),
             _ => write!(f, "{between}witness: {}", Found(witness)),
         }
+    }
+}
+
+impl Text<'_> {
+    // An explanation as `Explained` prints it, with any bytes between its parts; says whether each part printed itself to its end.
+    pub fn explanation(&mut self, explanation: &Result<(), Refusal>, between: &[u8]) -> bool
+        ensures same_reference { self.new.bytes.ghost_name ≡ self.old.bytes.ghost_name }
+        ensures same_length { length self.new.bytes.now ≡ length self.old.bytes.now }
+        ensures upper_bound { self.new.len ≤ length self.old.bytes.now }
+        ensures puts { OnTrue result (Puts (explained_text explanation.now between.now) self.old.bytes.now self.old.len self.new.bytes.now self.new.len) }
+    {
+        let Err(refusal) = explanation else {
+            self.put(b"accepted");
+            return true;
+        };
+        let Refusal {
+            error,
+            place,
+            test,
+            witness,
+        } = *refusal;
+        let refused = self.show(RefusedLine(error));
+        self.put(between);
+        let tested = self.show(Tested(place, test));
+        if let Witness::Nothing = witness {
+            return refused & tested;
+        }
+        self.put(between);
+        self.put(b"witness: ");
+        let found = self.show(Found(witness));
+        refused & tested & found
     }
 }
 
@@ -160,6 +246,11 @@ pub enum LogRefusal {
 }
 
 impl fmt::Display for LogRefusal {
+    ghost use Rattle.std.specs.Prelude.{Some};
+    ghost use Rattle.text.specs.Explained.{log_refusal_text};
+
+    ghost output = { λ r. Some (log_refusal_text r) };
+
     fn fmt<W: fmt::Write>(&self, f: &mut fmt::Formatter<W>) -> fmt::Result {
         match *self {
             LogRefusal::Unknown => f.write_str("refused 11\nplace: log, test 1, no such command"),
