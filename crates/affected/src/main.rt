@@ -9,11 +9,11 @@ use text::status::Phases;
 
 // The first 65,536 bytes of a file, as far as they can be read, played and asked about; of a file that cannot be opened nothing is.
 fn ask(rt: &HostRuntime, name: &[u8], id: usize) -> io::Result<()> {
-    let program = "affected";
+    let program = b"affected";
     let about = About { program, name };
     let mut log = [0; 65536];
     let Some(read) = read_log(rt, name, &mut log) else {
-        about.tell_unopened(rt.stderr(), " was not played, and nobody is listed");
+        about.tell_unopened(rt.stderr(), b" was not played, and nobody is listed");
         return Ok(());
     };
     let mut answers = [0; 65536];
@@ -23,7 +23,7 @@ fn ask(rt: &HostRuntime, name: &[u8], id: usize) -> io::Result<()> {
         rt.stderr(),
         read,
         last,
-        " is answered as far as it was played",
+        b" is answered as far as it was played",
     );
     let mut out = BufWriter::with_capacity(rt.alloc(), 65536, io::writer(rt))?;
     match impact::affected(&played.kernel, id) {
@@ -35,7 +35,7 @@ fn ask(rt: &HostRuntime, name: &[u8], id: usize) -> io::Result<()> {
 
 // The arguments by pairs, a log and an identity. A write that fails is passed over.
 fn main(rt: HostRuntime) {
-    each_pair(&rt, rt.stderr(), "affected", |name, _, id| {
+    each_pair(&rt, rt.stderr(), b"affected", |name, _, id| {
         let _ = ask(&rt, name, id);
     });
 }

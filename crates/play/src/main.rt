@@ -8,8 +8,8 @@ use std::io::Read;
 use text::logs::{About, LogRead, argument, argument_count, heading, read_log, read_open};
 
 fn cannot_read(rt: &HostRuntime, name: &[u8]) {
-    let program = "play";
-    About { program, name }.say(rt.stderr(), " cannot be read");
+    let program = b"play";
+    About { program, name }.say(rt.stderr(), b" cannot be read");
 }
 
 // Writes what is printed of a log; that it is nothing else is what this program promises, since write_all itself promises nothing of the bytes.

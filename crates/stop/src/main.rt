@@ -26,11 +26,11 @@ fn drained(rt: &HostRuntime, player: Player) -> io::Result<()> {
 
 // The first 65,536 bytes of a file, as far as they can be read, played and drained; of a file that cannot be opened nothing is.
 fn stop(rt: &HostRuntime, name: &[u8]) -> io::Result<()> {
-    let program = "stop";
+    let program = b"stop";
     let about = About { program, name };
     let mut log = [0; 65536];
     let Some(read) = read_log(rt, name, &mut log) else {
-        about.tell_unopened(rt.stderr(), " was not played, and nothing is drained");
+        about.tell_unopened(rt.stderr(), b" was not played, and nothing is drained");
         return Ok(());
     };
     let mut answers = [0; 65536];
@@ -40,7 +40,7 @@ fn stop(rt: &HostRuntime, name: &[u8]) -> io::Result<()> {
         rt.stderr(),
         read,
         last,
-        " is drained as far as it was played",
+        b" is drained as far as it was played",
     );
     drained(rt, played)
 }

@@ -1,5 +1,5 @@
 -- What is written of answers, of what may be missing, and of a dependency that did not resolve.
-use Rattle.std.specs.Prelude.{Err, List, None, Ok, Option, Result, Some, [], ℕ, ◌++◌, ◌∷◌, codes, decimal, min, take}
+use Rattle.std.specs.Prelude.{Err, List, None, Ok, Option, Result, Some, [], ℕ, ◌++◌, ◌∷◌, ◌==◌, codes, cond, decimal, min, take}
 use Rattle.std.specs.Fmt.{option_append}
 use Rattle.model.specs.declared.Error.{Error}
 use Rattle.model.specs.declared.Port.{Port}
@@ -11,6 +11,10 @@ use Rattle.results.specs.declared.CommittedBindings.{CommittedBindings}
 use Rattle.results.specs.declared.Identities.{Identities}
 use Rattle.results.specs.declared.TargetBindings.{TargetBindings}
 use Rattle.sizes.specs.Sizes.{DECLARATIONS, IDENTITIES, LINKS}
+
+-- an answer by its number
+abbrev pub answer_text : ℕ → List ℕ
+answer_text n = cond (n == 0) (codes "done") (codes "refused " ++ decimal n)
 
 -- refused, with the refusal's number
 abbrev pub refused_text : Error → List ℕ

@@ -22,6 +22,24 @@ impl<T> fmt::Display for Reply<'_, T> {
     }
 }
 
+// An answer by its number: 0 is done, any other a refusal.
+#[derive(Clone, Copy)]
+pub struct Answer(pub u8);
+
+impl fmt::Display for Answer {
+    ghost use Rattle.std.specs.Prelude.{Some};
+    ghost use Rattle.text.specs.Shown.{answer_text};
+
+    ghost output = { λ a. Some (answer_text a.0) };
+
+    fn fmt<W: fmt::Write>(&self, f: &mut fmt::Formatter<W>) -> fmt::Result {
+        match self.0 {
+            0 => f.write_str("done"),
+            number => write!(f, "refused {number}"),
+        }
+    }
+}
+
 // A refusal with its number and its name.
 #[derive(Clone, Copy)]
 pub struct RefusedLine(pub Error);

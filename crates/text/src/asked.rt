@@ -6,7 +6,7 @@ use std::env::Env;
 use std::io::Stderr;
 
 // Hands each pair to the program: the log's name, the word that is the number, empty if there is none, and the number. Of a word that is none a line is said.
-pub fn each_pair<F: Fn(&[u8], &[u8], usize)>(rt: &impl Env, stderr: Stderr, program: &str, ask: F)
+pub fn each_pair<F: Fn(&[u8], &[u8], usize)>(rt: &impl Env, stderr: Stderr, program: &[u8], ask: F)
     requires { F.IsAlwaysCallable ask }
 {
     for i in 0..argument_count(rt) / 2 {
@@ -20,7 +20,7 @@ pub fn each_pair<F: Fn(&[u8], &[u8], usize)>(rt: &impl Env, stderr: Stderr, prog
                 program,
                 name: word,
             }
-            .say(stderr, " is no number"),
+            .say(stderr, b" is no number"),
         }
     }
 }

@@ -1,6 +1,7 @@
 // A log read from a file, and what is said of one that is played, for the programs.
-ghost use Rattle.std.specs.Prelude.{◌≡◌, ◌≤◌, IfSome, length};
-ghost use Rattle.text.specs.Logs.{last_answer};
+ghost use Rattle.std.specs.Prelude.{◌≡◌, ◌≤◌, IfSome, length, option_copied};
+ghost use Rattle.text.specs.Logs.{end_said, last_answer, said_of};
+ghost use Rattle.text.specs.Written.{Puts};
 
 use crate::Text;
 use std::env::{Env, FillError};
@@ -88,10 +89,12 @@ pub fn read_log<'a>(rt: &impl Files, name: &[u8], log: &'a mut [u8]) -> Option<L
 }
 
 // What is said of a log that ends in this answer; nothing of one that ends in another.
-pub fn ended(answer: u8) -> Option<&'static str> {
+pub fn ended(answer: u8) -> Option<&'static [u8]>
+    ensures { option_copied result ≡ end_said answer }
+{
     match answer {
-        11 => Some(" ends in 11: a byte that is no command"),
-        12 => Some(" ends in 12: a command without its operands"),
+        11 => Some(b" ends in 11: a byte that is no command"),
+        12 => Some(b" ends in 12: a command without its operands"),
         _ => None,
     }
 }
@@ -106,22 +109,26 @@ pub fn heading(rt: &impl Print, name: &[u8]) {
 // What a line is about: the program's name, and the log's.
 #[derive(Clone, Copy)]
 pub struct About<'a> {
-    pub program: &'a str,
+    pub program: &'a [u8],
     pub name: &'a [u8],
 }
 
 impl About<'_> {
     // Puts a line: the names, and what is said.
-    fn put(&self, text: &mut Text<'_>, what: &str) {
-        text.put(self.program.as_bytes());
+    pub fn put(&self, text: &mut Text<'_>, what: &[u8])
+        ensures same_reference { text.new.bytes.ghost_name ≡ text.old.bytes.ghost_name }
+        ensures upper_bound { text.new.len ≤ length text.old.bytes.now }
+        ensures puts { Puts (said_of self.now.program.now self.now.name.now what.now) text.old.bytes.now text.old.len text.new.bytes.now text.new.len }
+    {
+        text.put(self.program);
         text.put(b": ");
         text.put(self.name);
-        text.put(what.as_bytes());
+        text.put(what);
         text.put(b"\n");
     }
 
     // Writes a line to standard error.
-    pub fn say(&self, stderr: Stderr, what: &str) {
+    pub fn say(&self, stderr: Stderr, what: &[u8]) {
         let mut said = [0; 65536];
         let mut text = Text::new(&mut said);
         self.put(&mut text, what);
@@ -129,20 +136,20 @@ impl About<'_> {
     }
 
     // Says of a log that it cannot be opened, and what is not made of it.
-    pub fn tell_unopened(&self, stderr: Stderr, not_made: &str) {
+    pub fn tell_unopened(&self, stderr: Stderr, not_made: &[u8]) {
         let mut said = [0; 65536];
         let mut text = Text::new(&mut said);
-        self.put(&mut text, " cannot be read");
+        self.put(&mut text, b" cannot be read");
         self.put(&mut text, not_made);
         warn(stderr, &text);
     }
 
     // Says of a log that it could not be read whole or that this answer ended it, and then what is made of it; nothing of another log.
-    pub fn tell(&self, stderr: Stderr, read: LogRead<'_>, answer: u8, made: &str) {
+    pub fn tell(&self, stderr: Stderr, read: LogRead<'_>, answer: u8, made: &[u8]) {
         let mut said = [0; 65536];
         let mut text = Text::new(&mut said);
         if !read.whole {
-            self.put(&mut text, " cannot be read");
+            self.put(&mut text, b" cannot be read");
         }
         if let Some(what) = ended(answer) {
             self.put(&mut text, what);

@@ -26,6 +26,16 @@ fn phase_at(place: u64) -> Phase
     }
 }
 
+pub fn parent_of(none: bool, operand: u64) -> Parent
+    ensures { result ≡ parent_of none operand }
+{
+    if none {
+        Parent::None
+    } else {
+        Parent::Of(identity_of(operand))
+    }
+}
+
 impl Operand {
     // The identity that an operand names.
     pub fn id(self) -> usize
@@ -54,11 +64,7 @@ impl Line {
     pub fn parent(&self, id: Operand) -> Parent
         ensures { result ≡ parent_of (has_dash self.now) (number_of id) }
     {
-        if self.has_dash() {
-            Parent::None
-        } else {
-            Parent::Of(id.id())
-        }
+        parent_of(self.has_dash(), id.number())
     }
 }
 

@@ -41,15 +41,15 @@ fn asked(log: &[u8], command: usize) -> LogExplanation {
 
 // The first 65,536 bytes of a file, as far as they can be read, played up to the command; of a file that cannot be opened nothing is.
 fn ask(rt: &HostRuntime, name: &[u8], word: &[u8], command: usize) -> io::Result<()> {
-    let program = "why";
+    let program = b"why";
     let about = About { program, name };
     let mut log = [0; 65536];
     let Some(read) = read_log(rt, name, &mut log) else {
-        about.tell_unopened(rt.stderr(), " was not played, and nothing is explained");
+        about.tell_unopened(rt.stderr(), b" was not played, and nothing is explained");
         return Ok(());
     };
     let why = asked(read.bytes, command);
-    about.tell(rt.stderr(), read, 0, " is answered as far as it was read");
+    about.tell(rt.stderr(), read, 0, b" is answered as far as it was read");
     match why {
         LogExplanation::NoCommand => no_command(rt, name, word),
         LogExplanation::Unknown => println!(rt; "{}", LogRefusal::Unknown),
@@ -61,7 +61,7 @@ fn ask(rt: &HostRuntime, name: &[u8], word: &[u8], command: usize) -> io::Result
 
 // The arguments by pairs, a log and a command's number, counted from 0. A write that fails is passed over.
 fn main(rt: HostRuntime) {
-    each_pair(&rt, rt.stderr(), "why", |name, word, command| {
+    each_pair(&rt, rt.stderr(), b"why", |name, word, command| {
         let _ = ask(&rt, name, word, command);
     });
 }
