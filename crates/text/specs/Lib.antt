@@ -1,4 +1,4 @@
-pub mod Explained
+pub mod Gathered
 pub mod Logs
 pub mod Made
 pub mod Operands

@@ -12,6 +12,7 @@ pub mod asked;
 pub mod explanations;
 pub mod logs;
 pub mod made;
+pub mod out;
 pub mod status;
 pub mod stored;
 pub mod words;
