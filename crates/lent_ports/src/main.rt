@@ -16,7 +16,8 @@ ghost use Rattle.sizes.specs.Sizes.{sizes};
 use kernel::Kernel;
 use model::{Error, Parent, Port, PortList};
 use std::array;
-use std::io::{self, BufWriter, Write};
+use std::fmt::Display;
+use text::logs::heading;
 use text::made::no_ports;
 
 // How many dependencies are tried, and how many provisions.
@@ -45,6 +46,15 @@ fn listed(ports: &[Port; 40], n: usize) -> PortList {
     list
 }
 
+// Writes at once; a write that fails is passed over.
+fn write(rt: &HostRuntime, value: impl Display + Drop) {
+    let _ = rt.print(value);
+}
+
+fn write_answer(rt: &HostRuntime, answer: Result<(), Error>) {
+    write(rt, format_args!(" {}", records::answer_number(answer)));
+}
+
 // What is asked: a kernel, and the parent and the dependencies of an insertion.
 #[derive(Clone, Copy)]
 struct Asked<'a> {
@@ -71,29 +81,27 @@ impl Asked<'_> {
     }
 
     // The answers for n dependencies.
-    fn row<W: Write>(&self, out: &mut W, n: usize, offered: &[Port; 40]) -> io::Result<()>
+    fn row(&self, rt: &HostRuntime, n: usize, offered: &[Port; 40])
         requires { n ≤ 40 }
     {
-        write!(out, "{n} slices")?;
+        write(rt, n);
+        write(rt, " slices");
         for m in COUNTS {
-            let answer = self.over_slices(n, offered, m);
-            write!(out, " {}", records::answer_number(answer))?;
+            write_answer(rt, self.over_slices(n, offered, m));
         }
-        write!(out, " lists")?;
+        write(rt, " lists");
         for m in COUNTS {
-            let answer = self.over_lists(n, offered, m);
-            write!(out, " {}", records::answer_number(answer))?;
+            write_answer(rt, self.over_lists(n, offered, m));
         }
-        writeln!(out)
+        write(rt, "\n");
     }
 
-    fn table<W: Write>(&self, out: &mut W) -> io::Result<()> {
-        writeln!(out, "== {}", self.name)?;
+    fn table(&self, rt: &HostRuntime) {
+        heading(rt, self.name.as_bytes());
         let offered = ports_of(1);
         for n in COUNTS {
-            self.row(out, n, &offered)?;
+            self.row(rt, n, &offered);
         }
-        Ok(())
     }
 }
 
@@ -118,8 +126,7 @@ fn unsound() -> Kernel {
     }
 }
 
-fn tables(rt: &HostRuntime) -> io::Result<()> {
-    let mut out = BufWriter::with_capacity(rt.alloc(), 65536, io::writer(rt))?;
+fn main(rt: HostRuntime) {
     let (none, wanted) = (Parent::None, ports_of(2));
     let asked = [
         ("empty", Kernel::new(), none, wanted),
@@ -142,12 +149,6 @@ fn tables(rt: &HostRuntime) -> io::Result<()> {
             parent,
             wanted,
         };
-        asked.table(&mut out)?;
+        asked.table(&rt);
     }
-    out.flush()
-}
-
-// A write that fails is passed over.
-fn main(rt: HostRuntime) {
-    let _ = tables(&rt);
 }
