@@ -27,23 +27,23 @@ mod steps;
 use commands::{Done, call_of};
 use questions::{checked, holds, number, observed};
 use state::State;
-use std::io::{self, BufWriter, Write};
 use steps::Step;
 use text::answers::Reply;
 use text::explanations::Explained;
-use text::logs::{argument, argument_count, open, read_full};
+use text::logs::{argument, argument_count, heading, open, read_full};
+use text::out::Out;
 use text::words::word;
 
 // Ends the line of a step that hands back a kernel, and goes on from that.
-fn replace<W: Write>(out: &mut W, state: &mut State, done: Done) -> io::Result<()> {
+fn replace(out: &mut Out<'_, &HostRuntime>, state: &mut State, done: Done) {
     let same = compare::same(&state.kernel, &done.kernel);
     state.kernel = done.kernel;
     let compared = if same { "unchanged" } else { "changed" };
-    writeln!(out, " {}, {compared}", done.answer)
+    writeln!(out, " {}, {compared}", done.answer);
 }
 
 // The answer of a step, which goes on from the state that it leaves.
-fn answer<W: Write>(out: &mut W, state: &mut State, line: &[u8]) -> io::Result<()> {
+fn answer(out: &mut Out<'_, &HostRuntime>, state: &mut State, line: &[u8]) {
     let Some((step, line)) = steps::read(line) else {
         return writeln!(out, " ?");
     };
@@ -53,38 +53,37 @@ fn answer<W: Write>(out: &mut W, state: &mut State, line: &[u8]) -> io::Result<(
             if command.uses_lists() {
                 state.use_up_lists();
             }
-            replace(out, state, commands::run(state.kernel, call))
+            replace(out, state, commands::run(state.kernel, call));
         }
         Step::Stop => replace(out, state, commands::stop(state.kernel)),
         Step::ByHand(how) => replace(out, state, commands::write(state, how, line)),
         Step::Setting(setting) => {
             state.set(setting, line);
-            writeln!(out, " done")
+            writeln!(out, " done");
         }
         Step::Test(test) => {
             let holds = holds(&state.kernel, test, line);
-            writeln!(out, " {}", if holds { "yes" } else { "no" })
+            writeln!(out, " {}", if holds { "yes" } else { "no" });
         }
         Step::Count(count) => writeln!(out, " {}", number(&state.kernel, count)),
         Step::Check(check) => writeln!(out, " {}", Reply(&checked(state, check, line))),
         Step::Observer(observer) => {
-            write!(out, " ")?;
-            observed(out, &state.kernel, observer, line)?;
-            writeln!(out)
+            write!(out, " ");
+            observed(out, &state.kernel, observer, line);
+            writeln!(out);
         }
     }
 }
 
 // The answer of the step after `try`: the kernel stays as it was.
-fn tried<W: Write>(out: &mut W, state: &mut State, line: &[u8]) -> io::Result<()> {
+fn tried(out: &mut Out<'_, &HostRuntime>, state: &mut State, line: &[u8]) {
     let kernel = state.kernel;
-    answer(out, state, line)?;
+    answer(out, state, line);
     state.kernel = kernel;
-    Ok(())
 }
 
 // The answer of the step after `why`: the kernel and the lists stay as they were.
-fn explained<W: Write>(out: &mut W, state: &State, line: &[u8]) -> io::Result<()> {
+fn explained(out: &mut Out<'_, &HostRuntime>, state: &State, line: &[u8]) {
     let read = steps::read(line);
     match read.and_then(|(step, line)| reasons::explanation(state, step, line)) {
         Some(explanation) => writeln!(out, " {}", Explained(&explanation, "; ")),
@@ -101,83 +100,65 @@ fn is_heading(line: &[u8]) -> bool {
 }
 
 // The line, and its answer if it is a step.
-fn step<W: Write>(out: &mut W, state: &mut State, line: &[u8]) -> io::Result<()> {
-    out.write_all(line)?;
+fn step(out: &mut Out<'_, &HostRuntime>, state: &mut State, line: &[u8]) {
+    out.write_through(line);
     if is_heading(line) {
-        return writeln!(out);
+        return out.write_through(b"\n");
     }
-    write!(out, ":")?;
+    out.write_through(b":");
     if let Some(line) = line.strip_prefix(b"try ") {
-        return tried(out, state, line);
+        tried(out, state, line);
+    } else if let Some(line) = line.strip_prefix(b"why ") {
+        explained(out, state, line);
+    } else {
+        answer(out, state, line);
     }
-    if let Some(line) = line.strip_prefix(b"why ") {
-        return explained(out, state, line);
-    }
-    answer(out, state, line)
+    out.flush();
 }
 
 // Each line of a text; what is behind the last line's end is left out.
-fn play<W: Write>(out: &mut W, state: &mut State, lines: &[u8]) -> io::Result<()> {
+fn play(out: &mut Out<'_, &HostRuntime>, state: &mut State, lines: &[u8]) {
     for line in lines.split_inclusive(|byte| *byte == b'\n') {
         if let [line @ .., b'\n'] = line {
-            step(out, state, line)?;
+            step(out, state, line);
         }
     }
-    Ok(())
 }
 
 // Each line of a file; after `observe` the questions.
-fn play_file<W: Write>(
-    out: &mut W,
-    state: &mut State,
-    lines: &[u8],
-    questions: &[u8],
-) -> io::Result<()> {
+fn play_file(out: &mut Out<'_, &HostRuntime>, state: &mut State, lines: &[u8], questions: &[u8]) {
     for line in lines.split_inclusive(|byte| *byte == b'\n') {
         if let [line @ .., b'\n'] = line {
-            step(out, state, line)?;
+            step(out, state, line);
             if is_observe(line) {
-                play(out, state, questions)?;
+                play(out, state, questions);
             }
         }
     }
-    Ok(())
 }
 
 // A line with the name of the file that is argument i; gives its first bytes, none of a file that cannot be opened.
-fn read_argument<'a, W: Write>(
-    rt: &HostRuntime,
-    out: &mut W,
-    i: usize,
-    lines: &'a mut [u8],
-) -> io::Result<&'a [u8]> {
+fn read_argument<'a>(rt: &HostRuntime, i: usize, lines: &'a mut [u8]) -> &'a [u8] {
     let mut name = [0; 4096];
     let name = argument(rt, i, &mut name);
-    out.write_all(b"== ")?;
-    out.write_all(name)?;
-    out.write_all(b"\n")?;
+    heading(rt, name);
     let Some(mut file) = open(rt, name) else {
-        return Ok(&[]);
+        return &[];
     };
     let count = read_full(&mut file, lines);
-    Ok(&lines[..count])
+    &lines[..count]
 }
 
-// The first 65,536 bytes of each file after the first, whose lines are the questions.
-fn play_arguments(rt: &HostRuntime) -> io::Result<()> {
-    let mut out = BufWriter::with_capacity(rt.alloc(), 65536, io::writer(rt))?;
-    let mut questions = [0; 65536];
-    let questions = read_argument(rt, &mut out, 1, &mut questions)?;
-    let mut state = State::new();
-    for i in 2..argument_count(rt) {
-        let mut lines = [0; 65536];
-        let lines = read_argument(rt, &mut out, i, &mut lines)?;
-        play_file(&mut out, &mut state, lines, questions)?;
-    }
-    out.flush()
-}
-
-// A write that fails is passed over.
+// The first 65,536 bytes of each file after the first, whose lines are the questions. A write that fails is passed over.
 fn main(rt: HostRuntime) {
-    let _ = play_arguments(&rt);
+    let mut gathered = [0; 65536];
+    let mut out = Out::new(&rt, &mut gathered);
+    let mut questions = [0; 65536];
+    let questions = read_argument(&rt, 1, &mut questions);
+    let mut state = State::new();
+    for i in 2..argument_count(&rt) {
+        let mut lines = [0; 65536];
+        let lines = read_argument(&rt, i, &mut lines);
+        play_file(&mut out, &mut state, lines, questions);
+    }
 }

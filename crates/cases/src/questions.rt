@@ -5,9 +5,9 @@ use drain::Drain;
 use kernel::Kernel;
 use model::{Error, Step, StepCommand};
 use results::Identities;
-use std::io::{self, Write};
 use text::answers::{Committed, Ids, OrNone, Reply, Target};
 use text::made::port_of;
+use text::out::Out;
 use text::stored::Tables;
 use text::words::Line;
 
@@ -47,9 +47,9 @@ pub fn checked(state: &State, check: Check, line: Line) -> Result<(), Error> {
 }
 
 // Whether the kernel is sound, then its tables.
-fn tables<W: Write>(out: &mut W, kernel: &Kernel) -> io::Result<()> {
+fn tables(out: &mut Out<'_, &HostRuntime>, kernel: &Kernel) {
     let sound = if kernel.sound() { "sound" } else { "not sound" };
-    write!(out, "{sound}\n{}", Tables(kernel))
+    write!(out, "{sound}\n{}", Tables(kernel));
 }
 
 fn is_blank(step: &Step) -> bool {
@@ -57,23 +57,22 @@ fn is_blank(step: &Step) -> bool {
 }
 
 // A drain's answer, its count and its steps, past the count those that are not blank; of a refusal none.
-fn drained<W: Write>(out: &mut W, drain: Result<Drain, Error>) -> io::Result<()> {
-    write!(out, "{}, steps", Reply(&drain))?;
+fn drained(out: &mut Out<'_, &HostRuntime>, drain: Result<Drain, Error>) {
+    write!(out, "{}, steps", Reply(&drain));
     let Ok(drain) = drain else {
         return write!(out, " 0");
     };
-    write!(out, " {}", drain.count)?;
+    write!(out, " {}", drain.count);
     for (place, step) in drain.steps.iter().enumerate() {
         if place < drain.count || !is_blank(step) {
-            write!(out, ", {step}")?;
+            write!(out, ", {step}");
         }
     }
-    Ok(())
 }
 
 // Leave's answer, and who is hit; of a refusal nobody.
-fn hit<W: Write>(out: &mut W, affected: Result<Identities, Error>) -> io::Result<()> {
-    write!(out, "{}, ", Reply(&affected))?;
+fn hit(out: &mut Out<'_, &HostRuntime>, affected: Result<Identities, Error>) {
+    write!(out, "{}, ", Reply(&affected));
     match affected {
         Ok(ids) => write!(out, "{}", Ids(&ids)),
         Err(_) => write!(out, "empty"),
@@ -81,12 +80,7 @@ fn hit<W: Write>(out: &mut W, affected: Result<Identities, Error>) -> io::Result
 }
 
 // The answer of an observer.
-pub fn observed<W: Write>(
-    out: &mut W,
-    kernel: &Kernel,
-    observer: Observer,
-    line: Line,
-) -> io::Result<()> {
+pub fn observed(out: &mut Out<'_, &HostRuntime>, kernel: &Kernel, observer: Observer, line: Line) {
     let [first, second, third, ..] = line.operands;
     let id = first.id();
     match observer {
@@ -99,7 +93,7 @@ pub fn observed<W: Write>(
         Observer::Committed => write!(out, "{}", Committed(&kernel.committed(id))),
         Observer::LinkGeneration => {
             let generation = kernel.link_generation(id, port_of(second, third));
-            write!(out, "{}", OrNone(generation))
+            write!(out, "{}", OrNone(generation));
         }
         Observer::Tables => tables(out, kernel),
         Observer::Drain => drained(out, drain::drain(kernel)),
