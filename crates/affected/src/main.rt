@@ -9,11 +9,11 @@ use text::status::Phases;
 
 // The first 65,536 bytes of a file, as far as they can be read, played and asked about; of a file that cannot be opened nothing is.
 fn ask(rt: &HostRuntime, name: &[u8], id: usize) {
-    let program = "affected";
+    let program = b"affected";
     let about = About { program, name };
     let mut log = [0; 65536];
     let Some(read) = read_log(rt, name, &mut log) else {
-        return about.tell_unopened(rt.stderr(), " was not played, and nobody is listed");
+        return about.tell_unopened(rt.stderr(), b" was not played, and nobody is listed");
     };
     let mut answers = [0; 65536];
     let played = player::play(player::start(), read.bytes, &mut answers);
@@ -38,7 +38,7 @@ fn main(rt: HostRuntime) {
     each_pair(
         &rt,
         rt.stderr(),
-        "affected",
+        b"affected",
         |name, _, id| ask(&rt, name, id),
     );
 }

@@ -2,7 +2,7 @@
 ghost use Rattle.player.specs.Gathered.{Gathers};
 ghost use Rattle.std.specs.Prelude.{◌≤◌, length};
 
-use crate::commands::{Player, play};
+use crate::commands::Player;
 use crate::put::Bytes;
 use crate::tables;
 use drain::Drain;
@@ -19,7 +19,7 @@ fn byte_of(command: StepCommand) -> u8 {
 }
 
 // The drain played on the player's kernel, by the kernel's own commands; answers[i] is the answer of step i.
-pub fn play_drain(player: Player, drain: Drain, answers: &mut [u8]) -> Player
+pub fn play_drain(mut player: Player, drain: Drain, answers: &mut [u8]) -> Player
     ensures { result.answered ≤ length answers.old }
 {
     let mut log = [0; 2 * STEPS];
@@ -29,7 +29,9 @@ pub fn play_drain(player: Player, drain: Drain, answers: &mut [u8]) -> Player
         steps.small(step.id);
     }
     let end = steps.len();
-    play(Player { at: 0, ..player }, &log[..end], answers)
+    player.at = 0;
+    player.play_on(&log[..end], answers);
+    player
 }
 
 // The drain, or one without steps where it is refused.

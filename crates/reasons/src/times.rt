@@ -21,7 +21,8 @@ fn next_call(player: &Player, log: &[u8]) -> Call {
 fn played(out: &mut Bytes, player: &Player, log: &[u8], answers: &mut [u8])
     ensures { Gathers out.old out.new }
 {
-    let next = play(*player, log, answers);
+    let mut next = *player;
+    next.play_on(log, answers);
     out.put(&answers[..next.answered]);
 }
 

@@ -7,11 +7,11 @@ use text::status::Status;
 
 // The first 65,536 bytes of a file, played.
 fn show(rt: &HostRuntime, name: &[u8]) {
-    let program = "status";
+    let program = b"status";
     let about = About { program, name };
     let mut log = [0; 65536];
     let Some(LogRead { bytes, whole: true }) = read_log(rt, name, &mut log) else {
-        return about.say(rt.stderr(), " cannot be read");
+        return about.say(rt.stderr(), b" cannot be read");
     };
     let mut answers = [0; 65536];
     let played = player::play(player::start(), bytes, &mut answers);

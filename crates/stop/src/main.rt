@@ -27,11 +27,11 @@ fn drained(rt: &HostRuntime, player: Player) {
 
 // The first 65,536 bytes of a file, as far as they can be read, played and drained; of a file that cannot be opened nothing is.
 fn stop(rt: &HostRuntime, name: &[u8]) {
-    let program = "stop";
+    let program = b"stop";
     let about = About { program, name };
     let mut log = [0; 65536];
     let Some(read) = read_log(rt, name, &mut log) else {
-        return about.tell_unopened(rt.stderr(), " was not played, and nothing is drained");
+        return about.tell_unopened(rt.stderr(), b" was not played, and nothing is drained");
     };
     let mut answers = [0; 65536];
     let played = player::play(player::start(), read.bytes, &mut answers);

@@ -1,3 +1,4 @@
+pub mod Explained
 pub mod Gathered
 pub mod Logs
 pub mod Made
