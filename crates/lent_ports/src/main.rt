@@ -126,29 +126,30 @@ fn unsound() -> Kernel {
     }
 }
 
+// Asks of one kernel, so that no more than one is held.
+fn ask(rt: &HostRuntime, name: &str, kernel: Kernel, parent: Parent, wanted: [Port; 40]) {
+    let asked = Asked {
+        name,
+        kernel,
+        parent,
+        wanted,
+    };
+    asked.table(rt);
+}
+
 fn main(rt: HostRuntime) {
     let (none, wanted) = (Parent::None, ports_of(2));
-    let asked = [
-        ("empty", Kernel::new(), none, wanted),
-        ("first provision taken", providing(0), none, wanted),
-        ("32nd provision taken", providing(31), none, wanted),
-        (
-            "32nd dependency equal to the first",
-            Kernel::new(),
-            none,
-            repeated(2),
-        ),
-        ("parent unknown", providing(0), Parent::Of(1), wanted),
-        ("parent retired", retired(), Parent::Of(0), wanted),
-        ("unsound", unsound(), none, wanted),
-    ];
-    for (name, kernel, parent, wanted) in asked {
-        let asked = Asked {
-            name,
-            kernel,
-            parent,
-            wanted,
-        };
-        asked.table(&rt);
-    }
+    ask(&rt, "empty", Kernel::new(), none, wanted);
+    ask(&rt, "first provision taken", providing(0), none, wanted);
+    ask(&rt, "32nd provision taken", providing(31), none, wanted);
+    ask(
+        &rt,
+        "32nd dependency equal to the first",
+        Kernel::new(),
+        none,
+        repeated(2),
+    );
+    ask(&rt, "parent unknown", providing(0), Parent::Of(1), wanted);
+    ask(&rt, "parent retired", retired(), Parent::Of(0), wanted);
+    ask(&rt, "unsound", unsound(), none, wanted);
 }
