@@ -94,11 +94,18 @@ impl<'a> Bytes<'a> {
         self.word(binding.provider as u64);
     }
 
+    // An answer's number, and a count.
+    pub fn counted<T: Drop>(&mut self, answer: Result<T, Error>, count: usize)
+        ensures { Gathers self.old self.new }
+    {
+        self.byte(records::answer_number(answer));
+        self.half(count);
+    }
+
     // An answer's number and its count, 0 where it is refused.
     pub fn head(&mut self, answer: Result<usize, Error>)
         ensures { Gathers self.old self.new }
     {
-        self.byte(records::answer_number(answer));
-        self.half(answer.unwrap_or(0));
+        self.counted(answer, answer.unwrap_or(0));
     }
 }
