@@ -13,7 +13,7 @@ mod resolution;
 mod updates;
 
 pub use declarations::{check_provisions, declares_in, relies_on, remaining_in, taken_in};
-pub use nodes::{child_flags, node_flags, places_of};
+pub use nodes::{child_flags, has_child, node_flags, places_of};
 pub use resolution::{committed_in, link_generation_in, resolve_table, target_table};
 pub use updates::update_node;
 

@@ -69,3 +69,29 @@ pub fn parent_ok(nodes: &[Node], id: usize, parent: Parent) -> bool
         Parent::Of(p) => p < id && p < nodes.len() && nodes[p].present,
     }
 }
+
+#[cfg(test)]
+mod tests {
+    use crate::has_child;
+    use model::{Node, Parent};
+    use sizes::IDENTITIES;
+
+    // No node; a child; an absent one, another parent's and one without a parent; a child behind these; a child behind as many as a table holds.
+    #[test]
+    fn present_children_of_this_parent(rt: HostRuntime) {
+        let child = records::new_node(Parent::Of(2));
+        let gone = Node {
+            present: false,
+            ..child
+        };
+        let others = records::new_node(Parent::Of(1));
+        let root = records::new_node(Parent::None);
+        assert!(rt; !has_child(&[], 2));
+        assert!(rt; has_child(&[child], 2));
+        assert!(rt; !has_child(&[gone, others, root], 2));
+        assert!(rt; has_child(&[gone, others, root, child], 2));
+        let mut many = [others; IDENTITIES + 1];
+        many[IDENTITIES] = child;
+        assert!(rt; has_child(&many, 2));
+    }
+}
